@@ -1,0 +1,5 @@
+pub mod Every
+pub mod FieldLaws
+pub mod ByteLaws
+pub mod SetLaws
+pub mod OutcomeLaws
