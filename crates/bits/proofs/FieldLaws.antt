@@ -5,14 +5,15 @@ use mathlib.Core.List.{List, [], _∷_}
 use Prim.Native.Nat.{ℕ, zero, suc, _+_, _-_, _*_, _/_, _%_, _^_, _≤_, _<_}
 use native.Mathlib.Nat.{mod-lt, mod-one, mul-assoc, mul-comm, mul-add, add-mul, add-suc, not-suc-le-zero, le-of-suc-le-suc, one-mul, le-of-eq, pow-suc, mul-mod-left, div-eq-of-lt, sub-add-cancel, add-comm, add-assoc, mod-eq-of-lt, lt-of-lt-of-le, add-zero, zero-add, zero-mul, two-pow-succ}
 use native.Mathlib.Omega.{arith}
-use lib.Dec.{T, leb, ltb, eqb, leb→le, ltb→lt, eqb→eq}
+use lib.Dec.{T, leb, ltb, eqb, leb→le, ltb→lt, eqb→eq, lt→ltb}
 use lib.ListN.{length, getD, drop, drop-of-length-le}
 use lib.Seq.{drop-cons, drop-length}
 use lib.Arith.{digits-lt}
 use borrow.Author.Tests.{lt-leb, le-ltb, leb-true, leb-false, eqb-true, ltb-true, ltb-false}
 use native.Mathlib.Numerals.{one-add}
 use lib.Pow.{pow-pos, pow-mono, pow-add, high, low, mod-pow-add, shl-exact, ones-split, ones-lt, shr-shr}
-use Rattle.bits.specs.Fields.{bits, Slot, split, join, fit, inside, assigned, apart, ones}
+use Rattle.bits.specs.Fields.{bits, Slot, split, join, fit, inside, assigned, apart, ones, mask}
+use Rattle.bits.specs.Sets.{has}
 use Rattle.bits.proofs.Every.{and-l, and-r}
 
 -- a multiple of a higher power is one of a lower
@@ -313,3 +314,21 @@ lit-above {pos} a b ha (next {s = s} {ss = ss} l p) u =
 -- bit b of the mask says whether b is in a slot
 pub mask-bit : (ss : List Slot) (b : ℕ) → Apart 0 ss → assigned ss b ≡ true → bits (join ss (ones ss)) b 1 ≡ 1
 mask-bit ss b p u = rw (← zero-add (join ss (ones ss))) (lit-above 0 b (pow-pos 0) p u)
+
+pub mask-has : (ss : List Slot) (b : ℕ) → Apart 0 ss → has (mask ss) b ≡ assigned ss b
+mask-has ss b p = go (assigned ss b) refl
+  where
+    go : (t : Bool) → assigned ss b ≡ t → has (mask ss) b ≡ assigned ss b
+    go true e = rw (mask-bit ss b p e, e)
+    go false e = rw (join-blank b p (ones-fit ss) e, e)
+
+-- the numbers of a word have room
+and-both : (a b : Bool) → T a → T b → T (a && b)
+and-both true b s t = t
+and-both false b s t = absurd s
+
+pub split-fit : (ss : List Slot) (w : ℕ) → T (fit ss (split ss w))
+unfolding fit split
+split-fit [] w = tt
+split-fit (s ∷ ss) w =
+    and-both (ltb (bits w (s .low) (s .width)) (2 ^ (s .width))) (fit ss (split ss w)) (lt→ltb _ _ (mod-lt _ (pow-pos (s .width)))) (split-fit ss w)

@@ -1,0 +1,172 @@
+-- Laws of opening: what an opened container has, its parts, and the order of the tests. Assumes nothing.
+use mathlib.Core.Path.{_≡_, refl, sym, ap, _∙_, subst}
+use mathlib.Core.Bool.{Bool, true, false, _&&_}
+use mathlib.Core.List.{List, [], _∷_}
+use Prim.Native.Nat.{ℕ, _+_, _-_, _*_, _<_, _≤_}
+use native.Mathlib.Nat.{add-zero}
+use native.Mathlib.Omega.{arith}
+use borrow.Author.Tests.{leb-true, eqb-true, le-leb, lt-leb, eq-eqb, ne-eqb}
+use lib.Dec.{leb, eqb}
+use lib.ListN.{length, take, drop, getD, length-take, length-drop}
+use lib.Seq.{getD-drop}
+use denote.Ref.{RefT, now}
+use Rattle.bits.specs.Bytes.{little}
+use Rattle.bits.specs.Outcomes.{Outcome, gives, refuses, require, _then_}
+use Rattle.bits.proofs.OutcomeLaws.{then-gives, required}
+use Rattle.container.specs.declared.header.Header.{Header}
+use Rattle.container.specs.declared.header.Opening.{Opening}
+use Rattle.container.specs.declared.header.Opening.the-variants.{Opened, Refused}
+use Rattle.container.specs.Container.{part, number, header-length, word-length, annotation-length, most-instructions, version, marked, version-of, zero-of, count-of, entry-of, words-of, annotations-of, annotations-start, container-length}
+use Rattle.container.specs.Opening.{header-of, opening-outcome, open-outcome, Opens, InPlace, annotations-in, Annotations}
+
+both : (a b : Bool) → (a && b) ≡ true → (a ≡ true) × (b ≡ true)
+both true b e = (refl, e)
+both false b e = absurd (let z : _≡_ {A = ℕ} 0 1 = cc in omega arith)
+
+pub length-part : (s : List ℕ) (start k : ℕ) → start + k ≤ length s → length (part s start k) ≡ k
+length-part s start k h = simp (length-take, length-drop) (omega arith)
+
+little-two : (b : List ℕ) → little (take 2 b) ≡ getD b 0 0 + 256 * getD b 1 0
+unfolding little
+little-two [] = refl
+little-two (x ∷ []) = refl
+little-two (x ∷ (y ∷ b)) = omega arith
+
+-- a 16-bit number, byte by byte
+number-two : (s : List ℕ) (start : ℕ) → number s start 2 ≡ getD s start 0 + 256 * getD s (start + 1) 0
+number-two s start = little-two (drop start s) ∙ simp (getD-drop, add-zero)
+
+pub version-two : (s : List ℕ) → version-of s ≡ getD s 3 0 + 256 * getD s 4 0
+unfolding version-of
+version-two s = number-two s 3
+
+pub count-two : (s : List ℕ) → count-of s ≡ getD s 6 0 + 256 * getD s 7 0
+unfolding count-of
+count-two s = number-two s 6
+
+-- what a container has whose header is h
+pub record Sized (s : List ℕ) (h : Header) : Type 0 where
+  pub header : h ≡ header-of s
+  pub counts : h .count ≡ count-of s
+  pub enters : h .entry ≡ entry-of s
+  pub some : 0 < count-of s
+  pub few : count-of s ≤ most-instructions
+  pub long : length s ≡ container-length (count-of s)
+
+module _ (s : List ℕ) {h : Header} (o : open-outcome s ≡ gives h) where
+  pub sized : Sized s h
+  unfolding open-outcome
+  sized =
+      let n = count-of s in
+      let a = then-gives _ _ h (then-gives _ _ h (then-gives _ _ h (then-gives _ _ h o .1) .1) .1) in
+      let b = then-gives _ _ h (a .1) in
+      let c = then-gives _ _ h (b .1) in
+      let t = both (leb 1 n) (leb n most-instructions) (required _ 12 (b .0)) in
+      let e : h ≡ header-of s = cc (c .1) in
+      record {
+        header = e;
+        counts = ap (λ (x : Header). x .count) e;
+        enters = ap (λ (x : Header). x .entry) e;
+        some = leb-true 1 n (t .0);
+        few = leb-true n most-instructions (t .1);
+        long = eqb-true (length s) (container-length n) (required _ 12 (c .0));
+      }
+
+  pub opened : Opens s
+  opened = o ∙ ap gives (sized .header)
+
+  pub length-words : length (words-of s) ≡ word-length * count-of s
+  unfolding words-of
+  length-words = length-part s header-length (word-length * count-of s) (omega (arith, sized .long))
+
+  pub length-annotations : length (annotations-of s) ≡ annotation-length * count-of s
+  unfolding annotations-of
+  length-annotations = length-part s (annotations-start (count-of s)) (annotation-length * count-of s) (omega (arith, sized .long))
+
+  -- the words and the annotations as the parts from the header to m and from m on, where m is where the words end
+  module _ (m : ℕ) (e : m ≡ annotations-start (count-of s)) where
+    pub words-to : take (m - header-length) (drop header-length s) ≡ words-of s
+    unfolding words-of
+    words-to =
+        let k : m - header-length ≡ word-length * count-of s = omega arith in
+        rw k
+
+    pub annotations-from : take (length s - m) (drop m s) ≡ annotations-of s
+    unfolding annotations-of
+    annotations-from =
+        let k : length s - m ≡ annotation-length * count-of s = omega (arith, sized .long) in
+        rw (k, e)
+
+-- the annotations that are handed back
+module _ (s r : RefT (List ℕ)) (a : Annotations s r) where
+  pub annotations-contents : {h : Header} → open-outcome (now s) ≡ gives h → now r ≡ annotations-of (now s)
+  unfolding annotations-of
+  annotations-contents {h} o =
+      let p : InPlace s r (annotations-start (h .count)) (annotation-length * h .count) = subst (λ (x : Outcome ℕ Header). annotations-in x s r) o a in
+      p .contents ∙ ap (λ (n : ℕ). part (now s) (annotations-start n) (annotation-length * n)) (sized (now s) o .counts)
+
+  pub annotations-none : {n : ℕ} → open-outcome (now s) ≡ refuses n → now r ≡ []
+  annotations-none o =
+      let p : InPlace s r 0 0 = subst (λ (x : Outcome ℕ Header). annotations-in x s r) o a in p .contents
+
+-- what opening found, from its answer
+module _ {a : Opening} {x : Outcome ℕ Header} (e : opening-outcome a ≡ x) where
+  pub opened-by : {h : Header} → a ≡ Opened h → x ≡ gives h
+  opened-by q = sym e ∙ ap opening-outcome q
+
+  pub refused-by : {r : ℕ} → a ≡ Refused r → x ≡ refuses r
+  refused-by q = sym e ∙ ap opening-outcome q
+
+-- the order of the tests
+module _ (s : List ℕ) where
+  pub too-short : length s < header-length → refuses 12 ≡ open-outcome s
+  unfolding open-outcome _then_
+  too-short h = rw (lt-leb header-length (length s) h)
+
+  module _ (long : header-length ≤ length s) where
+    pub wrong-mark : marked s ≡ false → refuses 10 ≡ open-outcome s
+    unfolding open-outcome _then_
+    wrong-mark e = rw (le-leb header-length (length s) long, e)
+
+    module _ (mark : marked s ≡ true) where
+      pub wrong-version : ¬ (version-of s ≡ version) → refuses 11 ≡ open-outcome s
+      unfolding open-outcome _then_
+      wrong-version e = rw (le-leb header-length (length s) long, mark, ne-eqb (version-of s) version e)
+
+      module _ (read : version-of s ≡ version) where
+        pub wrong-zero : ¬ (zero-of s ≡ 0) → refuses 13 ≡ open-outcome s
+        unfolding open-outcome _then_
+        wrong-zero e = rw (le-leb header-length (length s) long, mark, eq-eqb (version-of s) version read, ne-eqb (zero-of s) 0 e)
+
+-- what passed before the count is looked at
+pub record Framed (s : List ℕ) : Type 0 where
+  pub long : header-length ≤ length s
+  pub mark : marked s ≡ true
+  pub read : version-of s ≡ version
+  pub nought : zero-of s ≡ 0
+
+module _ (s : List ℕ) (f : Framed s) where
+  counted : (require (leb 1 (count-of s) && leb (count-of s) most-instructions) 12
+      then require (eqb (length s) (container-length (count-of s))) 12
+      then gives (header-of s)) ≡ open-outcome s
+  unfolding open-outcome _then_
+  counted = rw (le-leb header-length (length s) (f .long), f .mark, eq-eqb (version-of s) version (f .read), eq-eqb (zero-of s) 0 (f .nought))
+
+  pub no-instruction : count-of s < 1 → refuses 12 ≡ open-outcome s
+  unfolding _then_
+  no-instruction h = rw (lt-leb 1 (count-of s) h) at counted
+
+  pub too-many : most-instructions < count-of s → refuses 12 ≡ open-outcome s
+  unfolding _then_
+  too-many h = rw (le-leb 1 (count-of s) (omega arith), lt-leb (count-of s) most-instructions h) at counted
+
+  module _ (some : 0 < count-of s) (few : count-of s ≤ most-instructions) where
+    pub wrong-length : ¬ (length s ≡ container-length (count-of s)) → refuses 12 ≡ open-outcome s
+    unfolding _then_
+    wrong-length e =
+        rw (le-leb 1 (count-of s) some, le-leb (count-of s) most-instructions few, ne-eqb (length s) (container-length (count-of s)) e) at counted
+
+    pub opens : length s ≡ container-length (count-of s) → gives (header-of s) ≡ open-outcome s
+    unfolding _then_
+    opens e =
+        rw (le-leb 1 (count-of s) some, le-leb (count-of s) most-instructions few, eq-eqb (length s) (container-length (count-of s)) e) at counted

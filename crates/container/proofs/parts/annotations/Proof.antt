@@ -1,0 +1,89 @@
+use mathlib.Core.Path.{refl, sym, ap}
+use Prim.Native.Nat.{ℕ, _*_}
+use native.Mathlib.Nat.{add-zero, add-comm, add-sub-cancel-left}
+use native.Mathlib.Omega.{arith}
+use lib.ListN.{take, drop}
+use borrow.Author.Needs.{needs}
+use denote.Ref.{now}
+use Rattle.container.specs.Container.{annotation-length, annotations-start}
+use Rattle.container.proofs.OpeningLaws.{Sized, sized, opened-by, refused-by}
+use Rattle.container.proofs.header.open.Reads as open-reads
+use Rattle.container.proofs.parts.annotations.Lts as lts
+use Rattle.container.proofs.parts.annotations.Reads as reads
+use Rattle.container.proofs.parts.annotations.Statement.{statement}
+use Rattle.container.proofs.parts.annotations.Tie as tie
+
+-- in the arm of a container that opened
+abbrev Past : Type 0
+Past = lts.After-known-told (open-reads.Asked, open-reads.Learnt) reads.Pre reads.Post
+
+size : (c : Past) → Sized (now (c .before .before .before .before .before .args .bytes)) (c .before .header .given .0 .0)
+size c = sized (now (c .before .before .before .before .before .args .bytes)) (opened-by (c .before .before .before .«open» .ensures) (c .before .header .given .1))
+
+open-requires : tie.Need-open-requires
+open-requires c κs = search needs
+
+enum-known-header : tie.Need-enum-known-header
+enum-known-header c = search needs
+
+mul-start : tie.Need-mul-start
+mul-start c = let z = size c in omega arith
+
+add-start : tie.Need-add-start
+add-start c = let z = size c in omega arith
+
+mul-end : tie.Need-mul-end
+mul-end c = let z = size c in omega arith
+
+add-end : tie.Need-add-end
+add-end c = let z = size c in omega arith
+
+sub-result : tie.Need-sub-result
+sub-result c = search needs
+
+part-result-start : tie.Need-part-result-start
+part-result-start c = search needs
+
+part-result-end : tie.Need-part-result-end
+part-result-end c = let z = size c in omega arith
+
+returns : tie.Need-returns
+returns c =
+    let b = c .before .before .before .before .before .before .args .bytes in
+    let n = c .before .before .header .given .0 .0 .count in
+    let start = annotations-start n in
+    rw (opened-by (c .before .before .before .before .«open» .ensures) (c .before .before .header .given .1))
+    record {
+      place = ap (λ (k : ℕ). (b .ptr .0, k)) (add-comm start (b .ptr .1));
+      contents = ap (λ (k : ℕ). take k (drop start (now b))) (add-sub-cancel-left start (annotation-length * n));
+    }
+
+enum-told : tie.Need-enum-told
+enum-told c = search needs
+
+slice-aggregate-result : tie.Need-slice-aggregate-result
+slice-aggregate-result c = search needs
+
+returns-2 : tie.Need-returns-2
+returns-2 c =
+    let b = c .before .before .before .before .before .args .bytes in
+    rw (refused-by (c .before .before .before .«open» .ensures) (c .before .enum-told .given .1))
+    record { place = ap (λ (k : ℕ). (b .ptr .0, k)) (sym (add-zero (b .ptr .1))); contents = refl }
+
+pub annotations-spec : {M : Type 1} → statement M
+annotations-spec =
+    tie.close
+    (tie.spec
+    open-requires
+    enum-known-header
+    mul-start
+    add-start
+    mul-end
+    add-end
+    sub-result
+    part-result-start
+    part-result-end
+    returns
+    enum-told
+    slice-aggregate-result
+    returns-2)

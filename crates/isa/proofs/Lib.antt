@@ -1,0 +1,9 @@
+pub mod TableLaws
+pub mod RowLaws
+pub mod SetOfLaws
+pub mod SourceLaws
+pub mod OffsetLaws
+pub mod LegalityLaws
+pub mod ReaderLaws
+pub mod WriterLaws
+pub mod RegisterLaws

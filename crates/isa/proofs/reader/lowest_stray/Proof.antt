@@ -1,0 +1,32 @@
+use mathlib.Core.Path.{_≡_, refl, sym, ap, _∙_}
+use mathlib.Core.Bool.{Bool, true, false, not}
+use mathlib.Core.List.{List}
+use Prim.Native.Nat.{ℕ, zero, suc, _+_, _-_, _*_, _/_, _%_, _^_, _<_, _≤_}
+use native.Mathlib.Omega.{arith}
+use lib.ListN.{length, getD, drop}
+use Rattle.bits.specs.Sets.{minus, lowest}
+use Rattle.isa.proofs.TableLaws.{row-word-eq}
+use Rattle.isa.proofs.ReaderLaws.{stray-eq}
+use borrow.Author.Needs.{needs}
+use Rattle.isa.proofs.reader.lowest_stray.Statement.{statement}
+use Rattle.isa.proofs.reader.lowest_stray.Tie as tie
+
+row-word-requires : tie.Need-row-word-requires
+row-word-requires c κs = search needs
+
+missing-requires : tie.Need-missing-requires
+missing-requires c κs = search needs
+
+lowest-requires : tie.Need-lowest-requires
+lowest-requires c κs = search needs
+
+returns : tie.Need-returns
+returns c =
+    let a = c .before .before .before .args in
+    let h = c .before .before .before .pre .1 in
+    c .«lowest» .ensures .0
+    ∙ ap lowest (c .before .missing .ensures ∙ ap (minus (a .w)) (c .before .before .row-word .ensures ∙ row-word-eq (a .row) 4 h (omega arith)))
+    ∙ stray-eq (a .row) (a .w) h
+
+pub lowest-stray-spec : {M : Type 1} → statement M
+lowest-stray-spec = tie.close (tie.spec row-word-requires missing-requires lowest-requires returns)

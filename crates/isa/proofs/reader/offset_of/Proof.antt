@@ -1,0 +1,31 @@
+use mathlib.Core.Path.{_≡_, _∙_, ap, sym}
+use native.Mathlib.Omega.{arith}
+use mir.Syntax.{w32}
+use mir.Val.{toZ, ofZ}
+use mir.ValLaws.{toZ-ofZ}
+use Rattle.isa.specs.Instructions.{offset-number, offset-of}
+use Rattle.isa.proofs.OffsetLaws.{above, above-number, above-range, Below, below, below-range, flipped-fits, flipped-abs, of-small, of-large, of-large-eq}
+use borrow.Author.Needs.{needs}
+use Rattle.isa.proofs.reader.offset_of.Statement.{statement}
+use Rattle.isa.proofs.reader.offset_of.Tie as tie
+
+cast-result : tie.Need-cast-result
+cast-result c = search needs
+
+returns : tie.Need-returns
+returns c = of-small (c .before .args .n) (c .if1 .taken)
+
+sub-k : tie.Need-sub-k
+sub-k c = search needs
+
+cast-k : tie.Need-cast-k
+cast-k c = search needs
+
+sub-result : tie.Need-sub-result
+sub-result c = of-large (c .before .args .n) (c .if1 .left) (c .before .pre)
+
+returns-2 : tie.Need-returns-2
+returns-2 c = of-large-eq (c .before .args .n) (c .if1 .left) (c .before .pre)
+
+pub offset-of-spec : {M : Type 1} → statement M
+offset-of-spec = tie.close (tie.spec cast-result returns sub-k cast-k sub-result returns-2)

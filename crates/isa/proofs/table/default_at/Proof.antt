@@ -1,0 +1,37 @@
+use mathlib.Core.Path.{_≡_, refl, sym, ap, _∙_}
+use Prim.Native.Nat.{ℕ, _+_, _*_, _/_, _%_, _^_, _<_}
+use mathlib.Core.List.{List}
+use lib.ListN.{getD}
+use Rattle.isa.specs.Kinds.{about}
+use Rattle.isa.specs.Layout.{kind-of}
+use Rattle.isa.specs.Table.{kind-length, kinds-at, table}
+use Rattle.isa.proofs.TableLaws.{kind-word-eq, kinded}
+use native.Mathlib.Omega.{arith}
+use borrow.Author.Needs.{needs}
+use Rattle.isa.proofs.table.default_at.Statement.{statement}
+use Rattle.isa.proofs.table.default_at.Tie as tie
+
+found : (c : tie.After-kind-word) → c .kind-word .result ≡ about (kind-of (c .before .before .args .row) (c .before .before .args .i)) .default
+found c =
+    let a = c .before .before .args in
+    let p = c .before .before .pre in
+    let k = kinded (a .row) (a .i) (p .1) (p .2) in
+    c .kind-word .ensures
+    ∙ ap (λ (n : ℕ). getD table (kinds-at + (n * kind-length + 2)) 0) (c .before .kind-at .ensures .0)
+    ∙ kind-word-eq _ 2 (k .below) (omega arith)
+    ∙ k .default-same
+
+kind-at-requires : tie.Need-kind-at-requires
+kind-at-requires c κs = search needs
+
+kind-word-requires : tie.Need-kind-word-requires
+kind-word-requires c κs = search needs
+
+cast-result : tie.Need-cast-result
+cast-result c = record { fits = omega (arith, found c, kinded (c .before .before .args .row) (c .before .before .args .i) (c .before .before .pre .1) (c .before .before .pre .2) .default-lt) }
+
+returns : tie.Need-returns
+returns c = found c
+
+pub default-at-spec : {M : Type 1} → statement M
+default-at-spec = tie.close (tie.spec kind-at-requires kind-word-requires cast-result returns)

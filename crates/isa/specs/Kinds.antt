@@ -1,0 +1,114 @@
+-- What a field of a word may hold (paper 01, "The frame" and "Fields").
+use mathlib.Core.Bool.{Bool, true, false, _&&_, _||_}
+use mathlib.Core.List.{List, [], _∷_}
+use Prim.Native.Nat.{ℕ}
+use lib.Dec.{leb}
+
+-- the values from `first` to `last`
+pub record Range : Type 0 where
+  pub first : ℕ
+  pub last : ℕ
+
+infix 70 _to_
+abbrev pub _to_ : ℕ → ℕ → Range
+a to b = record { first = a; last = b }
+
+abbrev pub only : ℕ → Range
+only a = a to a
+
+-- v lies in one of the ranges
+abbrev pub within : List Range → ℕ → Bool
+within [] v = false
+within (r ∷ rs) v = (leb (r .first) v && leb v (r .last)) || within rs v
+
+-- the kinds of fields
+pub data Kind : Type 0 where
+  -- no field: nothing but 0
+  absent : Kind
+  -- one bit: negate or absolute of N, eq, conservative, ftz, flush_inf, saturate, the lane of F16_TO_F32
+  flag : Kind
+  -- two bits: round mode (R), result type (T), clamp, an 8-bit lane
+  two-bits : Kind
+  -- F, 002's "Widen"
+  widen : Kind
+  -- H, the first four of 002's "Swizzles (16-bit)"
+  swizzle-half : Kind
+  -- W32, W16 and W8, 002's "Swizzles" of these widths
+  swizzle-32 swizzle-16 swizzle-8 : Kind
+  -- 002's "Half-swizzles (8-bit)"
+  half-swizzle : Kind
+  -- C, and I, the same for integers
+  condition integer-condition : Kind
+  -- X
+  mux : Kind
+  -- BRANCHZ's combine
+  combine : Kind
+  -- FLUSH's NaN mode
+  nan-mode : Kind
+  -- a source byte
+  source : Kind
+  -- BRANCHZ's offset
+  offset : Kind
+  -- a secondary opcode of some bits
+  second : ℕ → Kind
+  -- the destination's register and half mask
+  register half-mask : Kind
+  -- what every word has
+  opcode page flow : Kind
+
+-- what is to be known of a kind
+pub record About : Type 0 where
+  -- how many bits it has
+  pub width : ℕ
+  -- the legal values, as the paper gives them
+  pub legal : List Range
+  -- what a default instruction has there (the paper's fresh record)
+  pub default : ℕ
+  -- the number of the refusal that an illegal value gets; 0 where no value that has room is illegal
+  pub number : ℕ
+
+-- a modifier: "6: illegal modifier"
+abbrev pub modifier : ℕ → List Range → ℕ → About
+modifier n l d = record { width = n; legal = l; default = d; number = 6 }
+
+-- any number that has room
+abbrev pub free : ℕ → About
+free n = record { width = n; legal = []; default = 0; number = 0 }
+
+-- "H = 2, W16 = 2, mux = 1, all else 0" are the defaults
+abbrev pub about : Kind → About
+about absent = free 0
+about flag = modifier 1 (0 to 1 ∷ []) 0
+about two-bits = modifier 2 (0 to 3 ∷ []) 0
+-- "3 is refused"
+about widen = modifier 2 (0 to 2 ∷ []) 0
+-- "all legal"
+about swizzle-half = modifier 2 (0 to 3 ∷ []) 2
+-- "W32: 0, 2-7 legal; W16: 0-13; W8: 0-11."
+about swizzle-32 = modifier 4 (only 0 ∷ 2 to 7 ∷ []) 0
+about swizzle-16 = modifier 4 (0 to 13 ∷ []) 2
+about swizzle-8 = modifier 4 (0 to 11 ∷ []) 0
+about half-swizzle = modifier 4 (0 to 15 ∷ []) 0
+about condition = modifier 3 (0 to 7 ∷ []) 0
+-- "only 0-5 legal"
+about integer-condition = modifier 3 (0 to 5 ∷ []) 0
+about mux = modifier 2 (0 to 3 ∷ []) 1
+-- "combine 37-39 (0-4 legal)"
+about combine = modifier 3 (0 to 4 ∷ []) 0
+-- "NaN mode 8-9 (0-2 legal)"
+about nan-mode = modifier 2 (0 to 2 ∷ []) 0
+-- "7: refused source"; which bytes are legal is said by their meaning
+about source = record { width = 8; legal = []; default = 0; number = 7 }
+about offset = free 27
+about (second n) = free n
+about register = free 6
+-- "1 low, 2 high, 3 full; 0 is refused"
+about half-mask = record { width = 2; legal = 1 to 3 ∷ []; default = 3; number = 5 }
+about opcode = free 9
+-- "The page is legal, and kept, when no source uses it."
+about page = free 2
+-- "Flow is 002's "Flow" in order: 11, 12 and 14 are reserved, 15 is `end`."
+about flow = record { width = 4; legal = 0 to 10 ∷ only 13 ∷ only 15 ∷ []; default = 0; number = 4 }
+
+abbrev pub width : Kind → ℕ
+width k = about k .width

@@ -1,0 +1,9 @@
+// Valhall instruction words: reading, writing, defaults and names of the rows of the instruction table.
+pub mod answer;
+pub mod instruction;
+pub mod legality;
+pub mod names;
+pub mod reader;
+pub mod registers;
+pub mod table;
+pub mod writer;

@@ -1,0 +1,103 @@
+// What an instruction does to registers, and where it goes. A row's shape is told from ranges of rows and not looked up, and sets are
+// made by arithmetic with 0 and 1, since a verifier asks for them at every word.
+use crate::instruction::Instruction;
+use bits::bytes::wide;
+use bits::sets::single;
+ghost use mathlib.Core.Path.{_≡_};
+ghost use mathlib.Core.Bool.{_&&_};
+ghost use Prim.Native.Nat.{_≤_, _<_, _^_, _%_};
+ghost use lib.Dec.{ltb};
+ghost use Rattle.bits.specs.Fields.{choose};
+ghost use Rattle.isa.specs.Rows.{row-of};
+ghost use Rattle.isa.specs.Registers.{reads-register, kills-register, reads, kills, defines, ends, branches};
+
+const BRANCH_ROW: u8 = 1;
+
+const END: u8 = 15;
+
+const FULL: u8 = 3;
+
+// How many sources a row has.
+fn source_count(row: u8) -> u64
+    ensures { λ r. ⌜ (r ≡ row-of row .sources) × (r ≤ 4) ⌝ }
+{
+    match row {
+        1 | 5..=52 => 1,
+        2 | 53..=54 => 2,
+        55..=76 => 3,
+        3..=4 => 4,
+        _ => 0,
+    }
+}
+
+// Whether a row has a destination.
+fn has_destination(row: u8) -> bool
+    ensures { λ r. ⌜ r ≡ row-of row .destination ⌝ }
+{
+    3 <= row && row < 77
+}
+
+// The register that source j of so many reads, as a set: a byte below 128 reads one.
+fn read_set(count: u64, j: u64, source: u8) -> u64
+    requires { ⌜ (count ≤ 4) × (j < 4) ⌝ }
+    ensures { λ r. ⌜ r ≡ choose (ltb j count && reads-register source) (2 ^ (source % 64)) 0 ⌝ }
+{
+    ((count + 3 - j) / 4 * (1 - wide(source) / 128)) << (source % 64)
+}
+
+// The register that it releases: of the bytes that read one, those from 64 up.
+fn kill_set(count: u64, j: u64, source: u8) -> u64
+    requires { ⌜ (count ≤ 4) × (j < 4) ⌝ }
+    ensures { λ r. ⌜ r ≡ choose (ltb j count && kills-register source) (2 ^ (source % 64)) 0 ⌝ }
+{
+    read_set(count, j, source) * (wide(source) / 64 % 2)
+}
+
+impl Instruction {
+    // The registers that it reads.
+    pub fn reads(self) -> u64
+        ensures { λ r. ⌜ r ≡ reads self ⌝ }
+    {
+        let n = source_count(self.row);
+        let s = self.sources;
+        (read_set(n, 0, s.s0) | read_set(n, 1, s.s1))
+            | (read_set(n, 2, s.s2) | read_set(n, 3, s.s3))
+    }
+
+    // The registers that it releases.
+    pub fn kills(self) -> u64
+        ensures { λ r. ⌜ r ≡ kills self ⌝ }
+    {
+        let n = source_count(self.row);
+        let s = self.sources;
+        (kill_set(n, 0, s.s0) | kill_set(n, 1, s.s1))
+            | (kill_set(n, 2, s.s2) | kill_set(n, 3, s.s3))
+    }
+
+    // The register that it fully writes, if there is one.
+    pub fn defines(self) -> u64
+        ensures { λ r. ⌜ r ≡ defines self ⌝ }
+    {
+        if !has_destination(self.row) {
+            return 0;
+        }
+        if self.half_mask != FULL {
+            return 0;
+        }
+        single(self.register)
+    }
+
+    // Whether its flow is `end`.
+    pub fn ends(self) -> bool
+        ensures { λ r. ⌜ r ≡ ends self ⌝ }
+    {
+        self.flow == END
+    }
+
+    // Whether it is a branch.
+    pub fn branches(self) -> bool
+        ensures { λ r. ⌜ r ≡ branches self ⌝ }
+    {
+        self.row == BRANCH_ROW
+    }
+}
