@@ -7,3 +7,11 @@ pub mod LegalityLaws
 pub mod ReaderLaws
 pub mod WriterLaws
 pub mod RegisterLaws
+pub mod RoundTrip
+pub mod Declared
+pub mod LegalRecords
+pub mod ReadableWords
+pub mod ExamplesHold
+pub mod Defaulted
+pub mod Demand2Met
+pub mod NameLaws

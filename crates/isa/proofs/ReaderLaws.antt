@@ -24,31 +24,23 @@ use Rattle.isa.specs.Instructions.{offset-number, offset-of, number-in, 
 use Rattle.isa.specs.Legality.{judge}
 use Rattle.isa.specs.Reader.{find, stray, lowest-stray, read-row, read-number, read}
 use Rattle.isa.specs.Answers.{refusal, reading, judging, judged}
-use Rattle.isa.specs.Table.{table, row-length}
 use Rattle.isa.specs.declared.instruction.Instruction.{Instruction}
 use Rattle.isa.specs.declared.answer.Refusal.{Refusal}
 use Rattle.isa.specs.declared.answer.Reading.{Reading}
 use Rattle.isa.specs.declared.answer.Legality.{Legality}
 use Rattle.isa.specs.declared.answer.Legality.the-variants.{Legal, Illegal}
-use Rattle.isa.proofs.TableLaws.{in-table, row-word-eq}
+use Rattle.isa.proofs.TableLaws.{in-table}
 use Rattle.isa.proofs.RowLaws.{row-apart, opcode-there, second-there, width-le}
 use Rattle.isa.proofs.OffsetLaws.{offset-there}
 
 -- ---- does a word fit a row
 
-pub fits-no : (k w : ℕ) {x : ℕ} → k < row-count → x ≡ bits w 48 9 → (x ≡ getD table (k * row-length + 0) 0 → ⊥) → false ≡ fits (row-of k) w
-fits-no k w h e n = rw (ne-eqb (bits w 48 9) (row-of k .opcode) (λ q. n (e ∙ q ∙ sym (row-word-eq k 0 h (omega arith)))))
+pub fits-no : (k w : ℕ) {x : ℕ} → x ≡ bits w 48 9 → (x ≡ row-of k .opcode → ⊥) → false ≡ fits (row-of k) w
+fits-no k w e n = rw (ne-eqb (bits w 48 9) (row-of k .opcode) (λ q. n (e ∙ q)))
 
-pub fits-rest : (k w : ℕ) {x y : ℕ} → k < row-count → x ≡ bits w 48 9 → x ≡ getD table (k * row-length + 0) 0
-    → y ≡ bits w (getD table (k * row-length + 1) 0) (getD table (k * row-length + 2) 0) → eqb y (getD table (k * row-length + 3) 0) ≡ fits (row-of k) w
-fits-rest k w h e q f =
-    rw (
-      eq-eqb (bits w 48 9) (row-of k .opcode) (sym e ∙ q ∙ row-word-eq k 0 h (omega arith)),
-      f,
-      row-word-eq k 1 h (omega arith),
-      row-word-eq k 2 h (omega arith),
-      row-word-eq k 3 h (omega arith),
-    )
+pub fits-rest : (k w : ℕ) {x y : ℕ} → x ≡ bits w 48 9 → x ≡ row-of k .opcode → y ≡ bits w (row-of k .second-low) (row-of k .second-width)
+    → eqb y (row-of k .second) ≡ fits (row-of k) w
+fits-rest k w e q f = rw (eq-eqb (bits w 48 9) (row-of k .opcode) (sym e ∙ q), f)
 
 -- ---- the search, row by row
 

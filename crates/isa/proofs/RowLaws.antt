@@ -199,6 +199,19 @@ secondary k h =
           eqb→eq _ _ (and-r (eqb (row-of k .second-width) 0) (eqb (row-of k .second) 0) t),
         ))
 
+-- ---- a row has at most four sources
+
+count-test : ℕ → Row → Bool
+count-test k r = leb (r .sources) 4
+
+counts-right : T (every count-test 0 rows)
+unfolding count-test rows
+counts-right = tt
+
+pub four-sources : (k : ℕ) → k < row-count → row-of k .sources ≤ 4
+unfolding count-test
+four-sources k h = leb→le _ _ (at count-test rows no-row counts-right k (in-table k h))
+
 -- ---- the slots of a row
 
 pub slots-length : (r : Row) → length (slots r) ≡ slot-count

@@ -3,7 +3,7 @@ use mathlib.Core.Path.{_≡_, refl, ap, sym, _∙_, subst}
 use mathlib.Core.Bool.{Bool, true, false, _&&_, not}
 use mathlib.Core.List.{List, [], _∷_, _++_, map}
 use Prim.Native.Nat.{ℕ, zero, suc, _+_, _*_, _/_, _%_, _^_, _<_, _≤_}
-use native.Mathlib.Nat.{not-suc-le-zero, le-of-suc-le-suc, zero-mul, suc-mul, zero-add, add-assoc, add-comm}
+use native.Mathlib.Nat.{not-suc-le-zero, le-of-suc-le-suc}
 use native.Mathlib.Omega.{arith}
 use lib.Dec.{T, eqb, ltb, ltb→lt, eqb→eq}
 use lib.ListN.{length, getD, take, drop, length-append, length-map, length-drop, List·getD-append, List·getD-map}
@@ -13,25 +13,13 @@ use Rattle.bits.proofs.Every.{every, at, and-l, and-r}
 use Rattle.isa.specs.Kinds.{Kind, About, about, width, absent}
 use Rattle.isa.specs.Rows.{Row, rows, row-of, no-row, row-count}
 use Rattle.isa.specs.Layout.{Field, layout, modifier-at, slots, slot-count, slot-of, field-of, kind-of, width-of, low-of, no-field}
-use Rattle.isa.specs.Table.{table, concat, row-words, kind-words, kinds, kind-number, kind-count, packed, page-word, legal-set, row-length, kind-length, kinds-at, lows-at, pages-at}
+use Rattle.isa.specs.Table.{table, row-words, kind-words, kinds, kind-number, kind-count, packed, low-words, page-word, page-words, legal-set, kinds-at, lows-at, pages-at}
 
--- ---- a list of lists of one length
-
-module _ {A : Type 0} (f : A → List ℕ) (n : ℕ) (len : (x : A) → length (f x) ≡ n) where
-  pub concat-length : (xs : List A) → length (concat (map f xs)) ≡ length xs * n
-  concat-length [] = sym (zero-mul n)
-  concat-length (x ∷ xs) =
-      length-append (f x) (concat (map f xs)) ∙ omega (arith, len x, concat-length xs, suc-mul (length xs) n)
-
-  pub concat-at : (xs : List A) (d : A) (k j : ℕ) → k < length xs → j < n → getD (concat (map f xs)) (k * n + j) 0 ≡ getD (f (getD xs k d)) j 0
-  concat-at [] d k j h l = absurd (not-suc-le-zero h)
-  concat-at (x ∷ xs) d zero j h l =
-      ap (λ (m : ℕ). getD (f x ++ concat (map f xs)) m 0) (omega (arith, zero-mul n))
-      ∙ List·getD-append (f x) (concat (map f xs)) 0 j (omega (arith, len x))
-  concat-at (x ∷ xs) d (suc k) j h l =
-      ap (λ (m : ℕ). getD (f x ++ concat (map f xs)) m 0) (omega (arith, len x, suc-mul k n))
-      ∙ getD-append-add (f x) (concat (map f xs)) (k * n + j) 0
-      ∙ concat-at xs d k j (le-of-suc-le-suc h) l
+-- the element of a mapped list, inside it, whatever the default
+pub getD-map-in : {A B : Type 0} (f : A → B) (xs : List A) (k : ℕ) (d : A) (e : B) → k < length xs → getD (map f xs) k e ≡ f (getD xs k d)
+getD-map-in f [] k d e h = absurd (not-suc-le-zero h)
+getD-map-in f (x ∷ xs) zero d e h = refl
+getD-map-in f (x ∷ xs) (suc k) d e h = getD-map-in f xs k d e (le-of-suc-le-suc h)
 
 -- ---- the parts of the table
 
@@ -42,103 +30,101 @@ count-rows = refl
 pub in-table : (k : ℕ) → k < row-count → k < length rows
 in-table k h = subst (λ (n : ℕ). k < n) (sym count-rows) h
 
-rows-part : List ℕ
-rows-part = concat (map row-words rows)
+row-lines : List (List ℕ)
+row-lines = map row-words rows
 
-kinds-part : List ℕ
-kinds-part = concat (map kind-words kinds)
+kind-lines : List (List ℕ)
+kind-lines = map kind-words kinds
 
-low-list : List ℕ
-low-list = map (λ (f : Field). f .low) (layout no-row)
-
-page-list : List ℕ
-page-list = page-word 0 ∷ page-word 1 ∷ page-word 2 ∷ page-word 3 ∷ []
-
-table-parts : table ≡ rows-part ++ kinds-part ++ low-list ++ page-list
-unfolding table rows-part kinds-part low-list page-list
-table-parts = refl
-
-rows-length : length rows-part ≡ kinds-at
-unfolding rows-part
-rows-length = concat-length row-words row-length (λ r. refl) rows ∙ ap (λ (n : ℕ). n * row-length) count-rows
-
-kinds-length : length kinds-part ≡ 96
-unfolding kinds-part
-kinds-length = concat-length kind-words kind-length (λ k. refl) kinds
+low-lines : List (List ℕ)
+low-lines = low-words 0 ∷ low-words 8 ∷ low-words 16 ∷ low-words 24 ∷ []
 
 -- `++` associates to the left
-rows-and-kinds : length (rows-part ++ kinds-part) ≡ lows-at
-rows-and-kinds = length-append rows-part kinds-part ∙ omega (arith, rows-length, kinds-length)
+table-parts : table ≡ row-lines ++ kind-lines ++ low-lines ++ (page-words ∷ [])
+unfolding table row-lines kind-lines low-lines
+table-parts = refl
 
-all-but-pages : length (rows-part ++ kinds-part ++ low-list) ≡ pages-at
-unfolding low-list layout
-all-but-pages = length-append (rows-part ++ kinds-part) low-list ∙ omega (arith, rows-and-kinds)
+length-rows : length row-lines ≡ kinds-at
+unfolding row-lines
+length-rows = length-map rows row-words ∙ count-rows
 
--- number n of each part
-rows-at : (n : ℕ) → n < kinds-at → getD table n 0 ≡ getD rows-part n 0
-rows-at n h =
+length-kinds : length (row-lines ++ kind-lines) ≡ lows-at
+unfolding kind-lines
+length-kinds = length-append row-lines (map kind-words kinds) ∙ omega (arith, length-rows)
+
+length-lows : length (row-lines ++ kind-lines ++ low-lines) ≡ pages-at
+unfolding low-lines
+length-lows = length-append (row-lines ++ kind-lines) low-lines ∙ omega (arith, length-kinds)
+
+-- the line of row k
+pub row-line : (k : ℕ) → k < row-count → getD table k [] ≡ row-words (row-of k)
+unfolding row-lines
+row-line k h =
     rw table-parts
-    (List·getD-append (rows-part ++ kinds-part ++ low-list) page-list 0 n (omega (arith, all-but-pages))
-    ∙ List·getD-append (rows-part ++ kinds-part) low-list 0 n (omega (arith, rows-and-kinds))
-    ∙ List·getD-append rows-part kinds-part 0 n (omega (arith, rows-length)))
+    (List·getD-append (row-lines ++ kind-lines ++ low-lines) (page-words ∷ []) [] k (omega (arith, length-lows))
+    ∙ List·getD-append (row-lines ++ kind-lines) low-lines [] k (omega (arith, length-kinds))
+    ∙ List·getD-append row-lines kind-lines [] k (omega (arith, length-rows))
+    ∙ getD-map-in row-words rows k no-row [] (in-table k h))
 
-kind-at : (n : ℕ) → n < 96 → getD table (kinds-at + n) 0 ≡ getD kinds-part n 0
-kind-at n h =
+-- the line of the kind that has the number n
+pub kind-line : (n : ℕ) → n < kind-count → getD table (kinds-at + n) [] ≡ kind-words (getD kinds n absent)
+unfolding kind-lines
+kind-line n h =
     rw table-parts
-    (List·getD-append (rows-part ++ kinds-part ++ low-list) page-list 0 (kinds-at + n) (omega (arith, all-but-pages))
-    ∙ List·getD-append (rows-part ++ kinds-part) low-list 0 (kinds-at + n) (omega (arith, rows-and-kinds))
-    ∙ ap (λ (m : ℕ). getD (rows-part ++ kinds-part) (m + n) 0) (sym rows-length)
-    ∙ getD-append-add rows-part kinds-part n 0)
+    (List·getD-append (row-lines ++ kind-lines ++ low-lines) (page-words ∷ []) [] (kinds-at + n) (omega (arith, length-lows))
+    ∙ List·getD-append (row-lines ++ kind-lines) low-lines [] (kinds-at + n) (omega (arith, length-kinds))
+    ∙ ap (λ (m : ℕ). getD (row-lines ++ kind-lines) (m + n) []) (sym length-rows)
+    ∙ getD-append-add row-lines kind-lines n []
+    ∙ getD-map-in kind-words kinds n absent [] h)
 
-low-at : (n : ℕ) → n < slot-count → getD table (lows-at + n) 0 ≡ getD low-list n 0
-low-at n h =
+low-line : (q : ℕ) → q < 4 → getD table (lows-at + q) [] ≡ getD low-lines q []
+low-line q h =
     rw table-parts
-    (List·getD-append (rows-part ++ kinds-part ++ low-list) page-list 0 (lows-at + n) (omega (arith, all-but-pages))
-    ∙ ap (λ (m : ℕ). getD (rows-part ++ kinds-part ++ low-list) (m + n) 0) (sym rows-and-kinds)
-    ∙ getD-append-add (rows-part ++ kinds-part) low-list n 0)
-
-page-at : (n : ℕ) → getD table (pages-at + n) 0 ≡ getD page-list n 0
-page-at n =
-    rw table-parts
-    (ap (λ (m : ℕ). getD (rows-part ++ kinds-part ++ low-list ++ page-list) (m + n) 0) (sym all-but-pages)
-    ∙ getD-append-add (rows-part ++ kinds-part ++ low-list) page-list n 0)
-
--- number j of row k
-pub row-word-eq : (k j : ℕ) → k < row-count → j < row-length → getD table (k * row-length + j) 0 ≡ getD (row-words (row-of k)) j 0
-unfolding rows-part
-row-word-eq k j h l =
-    rows-at (k * row-length + j) (omega arith) ∙ concat-at row-words row-length (λ r. refl) rows no-row k j (in-table k h) l
-
--- number j of the kind that has the number n
-pub kind-word-eq : (n j : ℕ) → n < kind-count → j < kind-length → getD table (kinds-at + (n * kind-length + j)) 0 ≡ getD (kind-words (getD kinds n absent)) j 0
-unfolding kinds-part
-kind-word-eq n j h l =
-    kind-at (n * kind-length + j) (omega arith) ∙ concat-at kind-words kind-length (λ k. refl) kinds absent n j h l
+    (List·getD-append (row-lines ++ kind-lines ++ low-lines) (page-words ∷ []) [] (lows-at + q) (omega (arith, length-lows))
+    ∙ ap (λ (m : ℕ). getD (row-lines ++ kind-lines ++ low-lines) (m + q) []) (sym length-kinds)
+    ∙ getD-append-add (row-lines ++ kind-lines) low-lines q [])
 
 -- the lowest bit of field i
-pub low-eq : (i : ℕ) → i < slot-count → getD table (lows-at + i) 0 ≡ low-of i
-unfolding low-list
-low-eq i h = low-at i h ∙ List·getD-map (λ (f : Field). f .low) (layout no-row) i no-field
-
 low-test : ℕ → Field → Bool
-low-test i f = ltb (f .low) 64
+low-test i f = eqb (getD (getD low-lines (i / 8) []) (i % 8) 0) (f .low) && ltb (f .low) 64
 
 lows-right : T (every low-test 0 (layout no-row))
-unfolding low-test layout modifier-at
+unfolding low-test low-lines layout modifier-at
 lows-right = tt
 
+tested-low : (i : ℕ) → i < slot-count → T (low-test i (getD (layout no-row) i no-field))
+unfolding layout
+tested-low i h = at low-test (layout no-row) no-field lows-right i h
+
+pub low-eq : (i : ℕ) → i < slot-count → getD (getD table (lows-at + i / 8) []) (i % 8) 0 ≡ low-of i
+unfolding low-test
+low-eq i h =
+    ap (λ (l : List ℕ). getD l (i % 8) 0) (low-line (i / 8) (omega arith))
+    ∙ eqb→eq _ _ (and-l (eqb (getD (getD low-lines (i / 8) []) (i % 8) 0) (low-of i)) (ltb (low-of i) 64) (tested-low i h))
+
 pub low-lt : (i : ℕ) → i < slot-count → low-of i < 64
-unfolding low-test layout modifier-at
-low-lt i h = ltb→lt (low-of i) 64 (at low-test (layout no-row) no-field lows-right i h)
+unfolding low-test
+low-lt i h = ltb→lt (low-of i) 64 (and-r (eqb (getD (getD low-lines (i / 8) []) (i % 8) 0) (low-of i)) (ltb (low-of i) 64) (tested-low i h))
 
 -- the special constants of a page
-pub page-eq : (p : ℕ) → p < 4 → getD table (pages-at + p) 0 ≡ page-word p
-unfolding page-list
-page-eq zero h = page-at 0
-page-eq (suc zero) h = page-at 1
-page-eq (suc (suc zero)) h = page-at 2
-page-eq (suc (suc (suc zero))) h = page-at 3
-page-eq (suc (suc (suc (suc p)))) h = absurd (omega arith)
+pub page-eq : (p : ℕ) → p < 4 → getD (getD table pages-at []) p 0 ≡ page-word p
+page-eq p h = ap (λ (l : List ℕ). getD l p 0) last ∙ in-line p h
+  where
+    last : getD table pages-at [] ≡ page-words
+    last =
+        rw table-parts
+        (ap (λ (m : ℕ). getD (row-lines ++ kind-lines ++ low-lines ++ (page-words ∷ [])) m []) (sym (add-zero-of length-lows))
+        ∙ getD-append-add (row-lines ++ kind-lines ++ low-lines) (page-words ∷ []) 0 [])
+      where
+        add-zero-of : {a b : ℕ} → a ≡ b → a + 0 ≡ b
+        add-zero-of e = omega arith
+
+    in-line : (q : ℕ) → q < 4 → getD page-words q 0 ≡ page-word q
+    in-line zero l = refl
+    in-line (suc zero) l = refl
+    in-line (suc (suc zero)) l = refl
+    in-line (suc (suc (suc zero))) l = refl
+    in-line (suc (suc (suc (suc q)))) l = absurd (omega arith)
 
 -- ---- the kinds of the fields, one test for all rows and fields
 
@@ -209,11 +195,11 @@ kinded k i hk hi =
     }
 
 -- the kinds of fields 10q to 10q + 9
-pub packed-eq : (k q : ℕ) → k < row-count → q < 3 → getD table (k * row-length + (5 + q)) 0 ≡ packed (take 10 (drop (q * 10) (layout (row-of k))))
-packed-eq k zero h l = row-word-eq k 5 h (omega arith)
-packed-eq k (suc zero) h l = row-word-eq k 6 h (omega arith)
-packed-eq k (suc (suc zero)) h l = row-word-eq k 7 h (omega arith) ∙ all-of (layout (row-of k)) (layout-length (row-of k))
+pub packed-eq : (k q : ℕ) → q < 3 → getD (row-words (row-of k)) (5 + q) 0 ≡ packed (take 10 (drop (q * 10) (layout (row-of k))))
+packed-eq k zero l = refl
+packed-eq k (suc zero) l = refl
+packed-eq k (suc (suc zero)) l = all-of (layout (row-of k)) (layout-length (row-of k))
   where
     all-of : (fs : List Field) → length fs ≡ slot-count → packed (drop 20 fs) ≡ packed (take 10 (drop 20 fs))
     all-of fs e = ap packed (sym (take-all 10 (drop 20 fs) (rw (length-drop 20 fs) (omega arith))))
-packed-eq k (suc (suc (suc q))) h l = absurd (omega arith)
+packed-eq k (suc (suc (suc q))) l = absurd (omega arith)

@@ -77,7 +77,7 @@ free n = record { width = n; legal = []; default = 0; number = 0 }
 
 -- "H = 2, W16 = 2, mux = 1, all else 0" are the defaults
 abbrev pub about : Kind → About
-about absent = free 0
+about absent = record { width = 0; legal = only 0 ∷ []; default = 0; number = 0 }
 about flag = modifier 1 (0 to 1 ∷ []) 0
 about two-bits = modifier 2 (0 to 3 ∷ []) 0
 -- "3 is refused"

@@ -10,4 +10,6 @@ pub mod Writer
 pub mod Defaults
 pub mod Names
 pub mod Registers
+pub mod Demand2
 pub mod Table
+pub mod Examples

@@ -3,7 +3,9 @@ use mathlib.Core.List.{List, [], _∷_, _++_, map}
 use Prim.Native.Nat.{ℕ, zero, suc, _-_}
 use Prim.Native.Char.{Char, code}
 use Prim.Native.String.{String, [] as empty, _∷_ as letter}
+use lib.Dec.{eqb}
 use lib.ListN.{length, replicate}
+use Rattle.bits.specs.Fields.{choose}
 use Rattle.isa.specs.Rows.{Row, rows, row-of}
 use Rattle.isa.specs.declared.names.Name.{Name}
 
@@ -27,9 +29,10 @@ unfoldable pub name : ℕ → Name
 name k = record { bytes = padded (name-of k); len = length (name-of k) }
 
 -- the names of all rows in their order, each in name-width bytes
-abbrev pub joined : List Row → List ℕ
-joined [] = []
-joined (r ∷ rs) = padded (ascii (r .name)) ++ joined rs
+unfoldable pub names : List (List ℕ)
+names = map (λ (r : Row). padded (ascii (r .name))) rows
 
-unfoldable pub names : List ℕ
-names = joined rows
+-- how many bytes stand before the first space
+unfoldable pub before-space : List ℕ → ℕ
+before-space [] = 0
+before-space (b ∷ bs) = choose (eqb b 32) 0 (suc (before-space bs))

@@ -1,4 +1,4 @@
--- The rows as one list of numbers, for looking them up: what the code's constant table holds, said from the rows.
+-- The rows as lines of numbers, for looking them up.
 use mathlib.Core.Bool.{Bool, true, false, not}
 use mathlib.Core.List.{List, [], _∷_, _++_, map}
 use Prim.Native.Nat.{ℕ, zero, suc, _+_, _-_, _*_, _^_}
@@ -6,8 +6,8 @@ use lib.Dec.{eqb}
 use lib.ListN.{take, drop}
 use Rattle.bits.specs.Fields.{choose, mask}
 use Rattle.isa.specs.Kinds.{Kind, width, about, within, absent, flag, two-bits, widen, swizzle-half, swizzle-32, swizzle-16, swizzle-8, half-swizzle, condition, integer-condition, mux, combine, nan-mode, source, offset, second, register, half-mask, opcode, page, flow}
-use Rattle.isa.specs.Rows.{Row, rows, no-row}
-use Rattle.isa.specs.Layout.{Field, layout, slots}
+use Rattle.isa.specs.Rows.{Row, rows}
+use Rattle.isa.specs.Layout.{Field, layout, slots, low-of}
 use Rattle.isa.specs.Sources.{is-reserved, special-at}
 
 -- the kinds in the order of their numbers
@@ -89,41 +89,36 @@ row-words r =
     ∷ packed (drop 20 (layout r))
     ∷ []
 
--- the legal values below 16; only those of registers go further, and every register is legal
+-- the legal values of a kind below 16
 abbrev pub legal-set : Kind → ℕ
 legal-set k = set-of (within (about k .legal)) 16
 
 -- a kind: width, legal values, default, refusal number
 abbrev pub kind-words : Kind → List ℕ
-kind-words k = width k ∷ legal-set k ∷ about k .default ∷ about k .number ∷ []
+kind-words k = width k ∷ legal-set k ∷ about k .default ∷ about k .number ∷ 0 ∷ 0 ∷ 0 ∷ 0 ∷ []
 
--- a page: the set of its special constants that are not reserved
+-- the lowest bits of fields i to i + 7
+abbrev pub low-words : ℕ → List ℕ
+low-words i = map (λ (j : ℕ). low-of (i + j)) (0 ∷ 1 ∷ 2 ∷ 3 ∷ 4 ∷ 5 ∷ 6 ∷ 7 ∷ [])
+
+-- the special constants of a page that are not reserved
 abbrev pub page-word : ℕ → ℕ
 page-word p = set-of (λ (i : ℕ). not (is-reserved (special-at p i))) 16
 
-abbrev pub concat : List (List ℕ) → List ℕ
-concat [] = []
-concat (x ∷ xs) = x ++ concat xs
+abbrev pub page-words : List ℕ
+page-words = page-word 0 ∷ page-word 1 ∷ page-word 2 ∷ page-word 3 ∷ 0 ∷ 0 ∷ 0 ∷ 0 ∷ []
 
-abbrev pub row-length : ℕ
-row-length = 8
-
-abbrev pub kind-length : ℕ
-kind-length = 4
-
--- where the parts begin: the rows, the kinds, the lowest bits of the fields, the pages
+-- where the kinds, the lowest bits and the pages stand
 abbrev pub kinds-at : ℕ
-kinds-at = 616
+kinds-at = 77
 
 abbrev pub lows-at : ℕ
-lows-at = 712
+lows-at = 101
 
 abbrev pub pages-at : ℕ
-pages-at = 738
+pages-at = 105
 
-unfoldable pub table : List ℕ
+-- a line for each row, for each kind, for each eight lowest bits, and one for the pages
+unfoldable pub table : List (List ℕ)
 table =
-    concat (map row-words rows)
-    ++ concat (map kind-words kinds)
-    ++ map (λ (f : Field). f .low) (layout no-row)
-    ++ (page-word 0 ∷ page-word 1 ∷ page-word 2 ∷ page-word 3 ∷ [])
+    map row-words rows ++ map kind-words kinds ++ (low-words 0 ∷ low-words 8 ∷ low-words 16 ∷ low-words 24 ∷ []) ++ (page-words ∷ [])

@@ -47,7 +47,7 @@ pub struct Instruction {
     pub offset: i32,
 }
 
-fn default_modifiers(t: &[u64; table::LENGTH], row: usize) -> Modifiers
+fn default_modifiers(t: &table::Table, row: usize) -> Modifiers
     requires { ⌜ (now t ≡ table) × (row < row-count) ⌝ }
     ensures { λ m. ⌜ m ≡ default-modifiers row ⌝ }
 {

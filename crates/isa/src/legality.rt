@@ -15,7 +15,7 @@ use crate::table;
 use bits::fields::bits_at;
 
 // Is a source byte legal on a page?
-fn source_ok(t: &[u64; table::LENGTH], page: u64, b: u64) -> bool
+fn source_ok(t: &table::Table, page: u64, b: u64) -> bool
     requires { ⌜ (now t ≡ table) × (page < 4) × (b < 256) ⌝ }
     ensures { λ r. ⌜ r ≡ source-legal page b ⌝ }
 {
@@ -26,7 +26,7 @@ fn source_ok(t: &[u64; table::LENGTH], page: u64, b: u64) -> bool
 }
 
 // Does field i of a row get refusal n for the value v?
-fn refused(t: &[u64; table::LENGTH], n: u64, row: usize, i: usize, page: u64, v: u64) -> bool
+fn refused(t: &table::Table, n: u64, row: usize, i: usize, page: u64, v: u64) -> bool
     requires { ⌜ (now t ≡ table) × (row < row-count) × (i < slot-count) × (page < 4) × (0 < n) × (v < 2 ^ width-of row i) ⌝ }
     ensures { λ r. ⌜ r ≡ refused-by n page (field-of row i) v ⌝ }
 {
@@ -40,7 +40,7 @@ fn refused(t: &[u64; table::LENGTH], n: u64, row: usize, i: usize, page: u64, v:
 }
 
 // The first field of a row that gets refusal n for these numbers, or SLOTS.
-fn first_refused(t: &[u64; table::LENGTH], n: u64, row: usize, v: [u64; table::SLOTS]) -> usize
+fn first_refused(t: &table::Table, n: u64, row: usize, v: [u64; table::SLOTS]) -> usize
     requires { ⌜ (now t ≡ table) × (row < row-count) × (0 < n) × T (fit (slots (row-of row)) v) ⌝ }
     ensures { λ r. ⌜ r ≡ first-refused n row v ⌝ }
 {
@@ -56,11 +56,7 @@ fn first_refused(t: &[u64; table::LENGTH], n: u64, row: usize, v: [u64; table::S
 }
 
 // The first of the refusals 4 to 7 that a row's numbers get.
-pub(crate) fn judge_numbers(
-    t: &[u64; table::LENGTH],
-    row: usize,
-    v: [u64; table::SLOTS],
-) -> Legality
+pub(crate) fn judge_numbers(t: &table::Table, row: usize, v: [u64; table::SLOTS]) -> Legality
     requires { ⌜ (now t ≡ table) × (row < row-count) × T (fit (slots (row-of row)) v) ⌝ }
     ensures { λ r. ⌜ judging r ≡ judge row v ⌝ }
 {

@@ -8,6 +8,7 @@ ghost use Rattle.isa.specs.Layout.{fits, slot-count, at-offset, at-opcod
 ghost use Rattle.isa.specs.Instructions.{offset-of, number-in, sources-of, modifiers-of, instruction-of};
 ghost use Rattle.isa.specs.Reader.{find, lowest-stray, read-number, read};
 ghost use Rattle.isa.specs.Answers.{judging, reading, judged};
+ghost use Rattle.isa.specs.Demand2.{ReadAsAsked};
 ghost use Rattle.isa.specs.Table.{table};
 use crate::answer::Legality;
 use crate::answer::Reading;
@@ -22,7 +23,7 @@ use bits::bytes::load64;
 use bits::fields::bits_at;
 
 // Does a word have row k's opcode and secondary opcode?
-fn fits_row(t: &[u64; table::LENGTH], k: usize, w: u64) -> bool
+fn fits_row(t: &table::Table, k: usize, w: u64) -> bool
     requires { ⌜ (now t ≡ table) × (k < row-count) ⌝ }
     ensures { λ r. ⌜ r ≡ fits (row-of k) w ⌝ }
 {
@@ -33,7 +34,7 @@ fn fits_row(t: &[u64; table::LENGTH], k: usize, w: u64) -> bool
 }
 
 // The number of the first row that a word fits, or ROWS.
-fn find_row(t: &[u64; table::LENGTH], w: u64) -> usize
+fn find_row(t: &table::Table, w: u64) -> usize
     requires { ⌜ now t ≡ table ⌝ }
     ensures { λ r. ⌜ (r ≡ find rows 0 w) × (r ≤ row-count) ⌝ }
 {
@@ -48,7 +49,7 @@ fn find_row(t: &[u64; table::LENGTH], w: u64) -> usize
 }
 
 // The lowest bit of a word that is 1 and that its row leaves unassigned, or 64.
-fn lowest_stray(t: &[u64; table::LENGTH], row: usize, w: u64) -> u32
+fn lowest_stray(t: &table::Table, row: usize, w: u64) -> u32
     requires { ⌜ (now t ≡ table) × (row < row-count) ⌝ }
     ensures { λ r. ⌜ r ≡ lowest-stray row w ⌝ }
 {
@@ -56,14 +57,14 @@ fn lowest_stray(t: &[u64; table::LENGTH], row: usize, w: u64) -> u32
 }
 
 // Number i of a word; not the offset or the opcode, which are wider than a byte.
-fn number_in(t: &[u64; table::LENGTH], row: usize, w: u64, i: usize) -> u8
+fn number_in(t: &table::Table, row: usize, w: u64, i: usize) -> u8
     requires { ⌜ (now t ≡ table) × (row < row-count) × (i < slot-count) × (i ≢ at-offset) × (i ≢ at-opcode) ⌝ }
     ensures { λ r. ⌜ r ≡ number-in row w i ⌝ }
 {
     bits_at(w, table::low_at(t, i), table::width_at(t, row, i)) as u8
 }
 
-fn sources_of(t: &[u64; table::LENGTH], row: usize, w: u64) -> Sources
+fn sources_of(t: &table::Table, row: usize, w: u64) -> Sources
     requires { ⌜ (now t ≡ table) × (row < row-count) ⌝ }
     ensures { λ s. ⌜ s ≡ sources-of row w ⌝ }
 {
@@ -75,7 +76,7 @@ fn sources_of(t: &[u64; table::LENGTH], row: usize, w: u64) -> Sources
     }
 }
 
-fn modifiers_of(t: &[u64; table::LENGTH], row: usize, w: u64) -> Modifiers
+fn modifiers_of(t: &table::Table, row: usize, w: u64) -> Modifiers
     requires { ⌜ (now t ≡ table) × (row < row-count) ⌝ }
     ensures { λ m. ⌜ m ≡ modifiers-of row w ⌝ }
 {
@@ -110,7 +111,7 @@ fn offset_of(n: u64) -> i32
 }
 
 // What a word of a row says.
-fn instruction_of(t: &[u64; table::LENGTH], row: usize, w: u64) -> Instruction
+fn instruction_of(t: &table::Table, row: usize, w: u64) -> Instruction
     requires { ⌜ (now t ≡ table) × (row < row-count) ⌝ }
     ensures { λ i. ⌜ i ≡ instruction-of row w ⌝ }
 {
@@ -139,7 +140,7 @@ fn judged(d: Legality, i: Instruction) -> Reading
 }
 
 // What a word says.
-pub(crate) fn read_number(t: &[u64; table::LENGTH], w: u64) -> Reading
+pub(crate) fn read_number(t: &table::Table, w: u64) -> Reading
     requires { ⌜ now t ≡ table ⌝ }
     ensures { λ r. ⌜ reading r ≡ read-number w ⌝ }
 {
@@ -161,7 +162,7 @@ pub(crate) fn read_number(t: &[u64; table::LENGTH], w: u64) -> Reading
 }
 
 // What eight bytes say; the table is lent, so that a caller who reads many words makes it once.
-pub fn read_with(t: &[u64; table::LENGTH], bytes: &[u8]) -> Reading
+pub fn read_with(t: &table::Table, bytes: &[u8]) -> Reading
     requires { ⌜ now t ≡ table ⌝ }
     ensures { λ r. ⌜ reading r ≡ read (now (bytes .entry)) ⌝ }
 {
@@ -177,6 +178,7 @@ pub fn read_with(t: &[u64; table::LENGTH], bytes: &[u8]) -> Reading
 // What eight bytes say: the instruction, or the first of the refusals 1 to 7.
 pub fn read_word(bytes: &[u8]) -> Reading
     ensures answer { λ r. ⌜ reading r ≡ read (now (bytes .entry)) ⌝ }
+    ensures demand { λ r. ⌜ ReadAsAsked (now (bytes .entry)) (reading r) ⌝ }
 {
     let t = table::made();
     read_with(&t, bytes)

@@ -3,29 +3,25 @@ ghost use mathlib.Core.Path.{_≡_};
 ghost use mathlib.Core.Logic.{_≢_};
 ghost use Prim.Native.Nat.{_+_, _*_, _<_, _≤_, _^_};
 ghost use lib.ListN.{getD};
-ghost use Rattle.isa.specs.Kinds.{about};
+ghost use Rattle.isa.specs.Kinds.{about, absent};
 ghost use Rattle.isa.specs.Rows.{row-of, row-count};
 ghost use Rattle.isa.specs.Layout.{slot-count, kind-of, width-of, low-of};
 ghost use Rattle.isa.specs.Defaults.{default-of};
-ghost use Rattle.isa.specs.Table.{table, kind-number, kind-count, page-word, legal-set, kinds-at, row-length, kind-length};
+ghost use Rattle.isa.specs.Table.{table, row-words, kinds, kind-words, kind-number, kind-count, page-word, legal-set};
 
+// How many rows there are, and how many fields a word has.
 pub const ROWS: usize = 77;
 
 pub const SLOTS: usize = 26;
 
-const KINDS: usize = 24;
+// A line for each row, for each kind of field, for each eight lowest bits of fields, and one for the pages.
+const KINDS_AT: usize = ROWS;
 
-const ROW_LENGTH: usize = 8;
+const LOWS_AT: usize = KINDS_AT + 24;
 
-const KIND_LENGTH: usize = 4;
+const PAGES_AT: usize = LOWS_AT + 4;
 
-const KINDS_AT: usize = ROWS * ROW_LENGTH;
-
-const LOWS_AT: usize = KINDS_AT + KINDS * KIND_LENGTH;
-
-const PAGES_AT: usize = LOWS_AT + SLOTS;
-
-pub const LENGTH: usize = PAGES_AT + 4;
+pub type Table = [[u64; 8]; PAGES_AT + 1];
 
 // The fields of a word, ordered by lowest bit.
 pub const S0: usize = 0;
@@ -210,772 +206,685 @@ const DEST: u64 = FRAME | K_REGISTER << 6 * (REGISTER - 20) | K_HALF_MASK << 6 *
 
 const A0: u64 = K_FLAG << 6 * (M39 - 20);
 
-// The rows; then a line for each kind; then the lowest bits of the fields; then a number for each page.
-const TABLE: [u64; LENGTH] = [
+const TABLE: Table = [
     // opcode; the secondary opcode's lowest bit, width and value; assigned bits; what stands in the fields
-    0x000,
-    0,
-    0,
-    0x00,
-    0x7FFF000000000000,
-    0,
-    0,
-    FRAME, // NOP
-    0x01F,
-    0,
-    0,
-    0x00,
-    0x7FFF00FFFFFFFFFF,
-    ONE | JUMP,
-    BRANCH,
-    FRAME, // BRANCHZ
-    0x020,
-    0,
-    0,
-    0x00,
-    0x7FFF00F73C00FFFF,
-    TWO,
-    N0 | F0 | N1 | F1 | C,
-    FRAME | A0, // DISCARD.f32
-    0x154,
-    0,
-    0,
-    0x00,
-    0x7FFFFF07FFFFFFFF,
-    FOUR,
-    C,
-    DEST, // CSEL.f32
-    0x155,
-    0,
-    0,
-    0x00,
-    0x7FFFFF07FFFFFFFF,
-    FOUR,
-    C,
-    DEST, // CSEL.v2f16
-    0x090,
-    16,
-    5,
-    0x07,
-    0x7FFFFFF0C01F00FF,
-    ONE | LOW_5,
-    R | W16_0,
-    DEST, // V2S16_TO_V2F16
-    0x090,
-    16,
-    5,
-    0x17,
-    0x7FFFFFF0C01F00FF,
-    ONE | LOW_5,
-    R | W16_0,
-    DEST, // V2U16_TO_V2F16
-    0x090,
-    16,
-    5,
-    0x09,
-    0x7FFFFFF0C01F00FF,
-    ONE | LOW_5,
-    R | W32_0,
-    DEST, // S32_TO_F32
-    0x090,
-    16,
-    5,
-    0x19,
-    0x7FFFFFF0C01F00FF,
-    ONE | LOW_5,
-    R | W32_0,
-    DEST, // U32_TO_F32
-    0x090,
-    16,
-    5,
-    0x04,
-    0x7FFFFF00301F00FF,
-    ONE | LOW_5,
-    H0,
-    DEST, // S16_TO_S32
-    0x090,
-    16,
-    5,
-    0x05,
-    0x7FFFFF00301F00FF,
-    ONE | LOW_5,
-    H0,
-    DEST, // S16_TO_F32
-    0x090,
-    16,
-    5,
-    0x14,
-    0x7FFFFF00301F00FF,
-    ONE | LOW_5,
-    H0,
-    DEST, // U16_TO_U32
-    0x090,
-    16,
-    5,
-    0x15,
-    0x7FFFFF00301F00FF,
-    ONE | LOW_5,
-    H0,
-    DEST, // U16_TO_F32
-    0x090,
-    16,
-    5,
-    0x0C,
-    0x7FFFFFC0C01F00FF,
-    ONE | LOW_5,
-    R | N0,
-    DEST | A0, // F32_TO_S32
-    0x090,
-    16,
-    5,
-    0x1C,
-    0x7FFFFFC0C01F00FF,
-    ONE | LOW_5,
-    R | N0,
-    DEST | A0, // F32_TO_U32
-    0x090,
-    16,
-    5,
-    0x0E,
-    0x7FFFFFC0F01F00FF,
-    ONE | LOW_5,
-    R | N0 | H0,
-    DEST | A0, // V2F16_TO_V2S16
-    0x090,
-    16,
-    5,
-    0x1E,
-    0x7FFFFFC0F01F00FF,
-    ONE | LOW_5,
-    R | N0 | H0,
-    DEST | A0, // V2F16_TO_V2U16
-    0x090,
-    16,
-    5,
-    0x0A,
-    0x7FFFFFC0F01F00FF,
-    ONE | LOW_5,
-    R | N0 | H0,
-    DEST | A0, // F16_TO_S32
-    0x090,
-    16,
-    5,
-    0x1A,
-    0x7FFFFFC0F01F00FF,
-    ONE | LOW_5,
-    R | N0 | H0,
-    DEST | A0, // F16_TO_U32
-    0x090,
-    16,
-    5,
-    0x0B,
-    0x7FFFFFC0D01F00FF,
-    ONE | LOW_5,
-    R | N0 | LANE_BIT,
-    DEST | A0, // F16_TO_F32
-    0x090,
-    16,
-    5,
-    0x00,
-    0x7FFFFF00301F00FF,
-    ONE | LOW_5,
-    LANE,
-    DEST, // S8_TO_S32
-    0x090,
-    16,
-    5,
-    0x01,
-    0x7FFFFF00301F00FF,
-    ONE | LOW_5,
-    LANE,
-    DEST, // S8_TO_F32
-    0x090,
-    16,
-    5,
-    0x10,
-    0x7FFFFF00301F00FF,
-    ONE | LOW_5,
-    LANE,
-    DEST, // U8_TO_U32
-    0x090,
-    16,
-    5,
-    0x11,
-    0x7FFFFF00301F00FF,
-    ONE | LOW_5,
-    LANE,
-    DEST, // U8_TO_F32
-    0x090,
-    16,
-    5,
-    0x02,
-    0x7FFFFFF0001F00FF,
-    ONE | LOW_5,
-    HALVES,
-    DEST, // V2S8_TO_V2S16
-    0x090,
-    16,
-    5,
-    0x03,
-    0x7FFFFFF0001F00FF,
-    ONE | LOW_5,
-    HALVES,
-    DEST, // V2S8_TO_V2F16
-    0x090,
-    16,
-    5,
-    0x12,
-    0x7FFFFFF0001F00FF,
-    ONE | LOW_5,
-    HALVES,
-    DEST, // V2U8_TO_V2U16
-    0x090,
-    16,
-    5,
-    0x13,
-    0x7FFFFFF0001F00FF,
-    ONE | LOW_5,
-    HALVES,
-    DEST, // V2U8_TO_V2F16
-    0x090,
-    16,
-    5,
-    0x0D,
-    0x7FFFFFC0F01F00FF,
-    ONE | LOW_5,
-    R | N0 | F0,
-    DEST | A0, // FROUND.f32
-    0x090,
-    16,
-    5,
-    0x0F,
-    0x7FFFFFC0F01F00FF,
-    ONE | LOW_5,
-    R | N0 | H0,
-    DEST | A0, // FROUND.v2f16
-    0x091,
-    16,
-    4,
-    0x00,
-    0x7FFFFF00000F00FF,
-    ONE | LOW_4,
-    0,
-    DEST, // MOV.i32
-    0x091,
-    16,
-    4,
-    0x04,
-    0x7FFFFF00000F00FF,
-    ONE | LOW_4,
-    0,
-    DEST, // CLZ.u32
-    0x091,
-    16,
-    4,
-    0x05,
-    0x7FFFFF00300F00FF,
-    ONE | LOW_4,
-    H0,
-    DEST, // CLZ.v2u16
-    0x091,
-    16,
-    4,
-    0x06,
-    0x7FFFFF00000F00FF,
-    ONE | LOW_4,
-    0,
-    DEST, // CLZ.v4u8
-    0x091,
-    16,
-    4,
-    0x08,
-    0x7FFFFFF0000F00FF,
-    ONE | LOW_4,
-    W32_0,
-    DEST, // IABS.s32
-    0x091,
-    16,
-    4,
-    0x09,
-    0x7FFFFFF0000F00FF,
-    ONE | LOW_4,
-    W16_0,
-    DEST, // IABS.v2s16
-    0x091,
-    16,
-    4,
-    0x0A,
-    0x7FFFFF00000F00FF,
-    ONE | LOW_4,
-    0,
-    DEST, // IABS.v4s8
-    0x091,
-    16,
-    4,
-    0x0C,
-    0x7FFFFF00000F00FF,
-    ONE | LOW_4,
-    0,
-    DEST, // POPCOUNT.i32
-    0x091,
-    16,
-    4,
-    0x0D,
-    0x7FFFFF00000F00FF,
-    ONE | LOW_4,
-    0,
-    DEST, // BITREV.i32
-    0x091,
-    16,
-    4,
-    0x0E,
-    0x7FFFFF00000F00FF,
-    ONE | LOW_4,
-    0,
-    DEST, // NOT_OLD.i32
-    0x098,
-    16,
-    4,
-    0x00,
-    0x7FFFFFC0300F0FFF,
-    ONE | LOW_4 | FLUSH,
-    N0 | F0,
-    DEST | A0, // FLUSH.f32
-    0x098,
-    16,
-    4,
-    0x01,
-    0x7FFFFFC0300F0FFF,
-    ONE | LOW_4 | FLUSH,
-    N0 | H0,
-    DEST | A0, // FLUSH.v2f16
-    0x09C,
-    16,
-    4,
-    0x00,
-    0x7FFFFFC0300F00FF,
-    ONE | LOW_4,
-    N0 | F0,
-    DEST | A0, // FRCP.f32
-    0x09C,
-    16,
-    4,
-    0x02,
-    0x7FFFFFC0300F00FF,
-    ONE | LOW_4,
-    N0 | F0,
-    DEST | A0, // FRSQ.f32
-    0x09C,
-    16,
-    4,
-    0x08,
-    0x7FFFFFC0300F00FF,
-    ONE | LOW_4,
-    N0 | F0,
-    DEST | A0, // FLOGD.f32
-    0x09C,
-    16,
-    4,
-    0x0A,
-    0x7FFFFFC0300F00FF,
-    ONE | LOW_4,
-    N0 | F0,
-    DEST | A0, // FPCLASS.f32
-    0x09C,
-    16,
-    4,
-    0x0C,
-    0x7FFFFFC0300F00FF,
-    ONE | LOW_4,
-    N0 | F0,
-    DEST | A0, // FLOG_TABLE.f32
-    0x09C,
-    16,
-    4,
-    0x0E,
-    0x7FFFFFC0300F00FF,
-    ONE | LOW_4,
-    N0 | F0,
-    DEST | A0, // FRCP_APPROX.f32
-    0x09C,
-    16,
-    4,
-    0x0F,
-    0x7FFFFFC0300F00FF,
-    ONE | LOW_4,
-    N0 | F0,
-    DEST | A0, // FRSQ_APPROX.f32
-    0x09C,
-    16,
-    4,
-    0x04,
-    0x7FFFFF00000F00FF,
-    ONE | LOW_4,
-    0,
-    DEST, // FSIN_TABLE.u6
-    0x09C,
-    16,
-    4,
-    0x05,
-    0x7FFFFF00000F00FF,
-    ONE | LOW_4,
-    0,
-    DEST, // FCOS_TABLE.u6
-    0x09C,
-    16,
-    4,
-    0x06,
-    0x7FFFFF00000F00FF,
-    ONE | LOW_4,
-    0,
-    DEST, // FSINCOS_OFFSET.u6
-    0x09C,
-    16,
-    4,
-    0x0D,
-    0x7FFFFF00000F00FF,
-    ONE | LOW_4,
-    0,
-    DEST, // FEXP_TABLE.u4
-    0x0A4,
-    16,
-    4,
-    0x00,
-    0x7FFFFFF33C0FFFFF,
-    TWO | LOW_4,
-    N0 | N1 | CLAMP | F0 | F1,
-    DEST | A0, // FADD.f32
-    0x0A5,
-    16,
-    4,
-    0x00,
-    0x7FFFFFF33C0FFFFF,
-    TWO | LOW_4,
-    N0 | N1 | CLAMP | H0 | H1,
-    DEST | A0, // FADD.v2f16
-    0x0B8,
-    0,
-    0,
-    0x00,
-    0x7FFFFF0300FFFFFF,
-    THREE,
-    X,
-    DEST, // MUX.i32
-    0x0B9,
-    0,
-    0,
-    0x00,
-    0x7FFFFF033FFFFFFF,
-    THREE,
-    X | H0 | H1 | H2,
-    DEST, // MUX.v2i16
-    0x0BA,
-    0,
-    0,
-    0x00,
-    0x7FFFFF0300FFFFFF,
-    THREE,
-    X,
-    DEST, // MUX.v4i8
-    0x0BC,
-    24,
-    4,
-    0x00,
-    0x7FFFFFF00FFFFFFF,
-    THREE | HIGH_4,
-    N0 | N1,
-    DEST | A0, // CUBE_SSEL
-    0x0BC,
-    24,
-    4,
-    0x01,
-    0x7FFFFFF00FFFFFFF,
-    THREE | HIGH_4,
-    N0 | N1,
-    DEST | A0, // CUBE_TSEL
-    0x0C0,
-    0,
-    0,
-    0x00,
-    0x7FFFFFFC00FFFFFF,
-    THREE,
-    N0 | N1 | N2,
-    DEST | A0, // CUBEFACE1
-    0x0C1,
-    0,
-    0,
-    0x00,
-    0x7FFFFFFC00FFFFFF,
-    THREE,
-    N0 | N1 | N2,
-    DEST | A0, // CUBEFACE2_V9
-    0x0C2,
-    24,
-    4,
-    0x00,
-    0x7FFFFF004FFFFFFF,
-    THREE | HIGH_4,
-    SATURATE,
-    DEST, // IDP.v4s8
-    0x0C2,
-    24,
-    4,
-    0x01,
-    0x7FFFFF004FFFFFFF,
-    THREE | HIGH_4,
-    SATURATE,
-    DEST, // IDP.v4u8
-    0x0F0,
-    24,
-    2,
-    0x00,
-    0x7FFFFFF7FFFFFFFF,
-    THREE | HIGH_2,
-    I | T | W32_0 | W32_1,
-    DEST, // ICMP_OR.u32
-    0x0F1,
-    24,
-    2,
-    0x00,
-    0x7FFFFFF7FFFFFFFF,
-    THREE | HIGH_2,
-    I | T | W16_0 | W16_1,
-    DEST, // ICMP_OR.v2u16
-    0x0F2,
-    24,
-    2,
-    0x00,
-    0x7FFFFFF7FFFFFFFF,
-    THREE | HIGH_2,
-    I | T | W8_0 | W8_1,
-    DEST, // ICMP_OR.v4u8
-    0x0F0,
-    24,
-    2,
-    0x01,
-    0x7FFFFFF7FFFFFFFF,
-    THREE | HIGH_2,
-    I | T | W32_0 | W32_1,
-    DEST, // ICMP_AND.u32
-    0x0F1,
-    24,
-    2,
-    0x01,
-    0x7FFFFFF7FFFFFFFF,
-    THREE | HIGH_2,
-    I | T | W16_0 | W16_1,
-    DEST, // ICMP_AND.v2u16
-    0x0F2,
-    24,
-    2,
-    0x01,
-    0x7FFFFFF7FFFFFFFF,
-    THREE | HIGH_2,
-    I | T | W8_0 | W8_1,
-    DEST, // ICMP_AND.v4u8
-    0x0F4,
-    24,
-    2,
-    0x00,
-    0x7FFFFFF7FFFFFFFF,
-    THREE | HIGH_2,
-    C | T | N0 | N1 | F0 | F1,
-    DEST | A0, // FCMP_OR.f32
-    0x0F5,
-    24,
-    2,
-    0x00,
-    0x7FFFFFF7FFFFFFFF,
-    THREE | HIGH_2,
-    C | T | N0 | N1 | H0 | H1,
-    DEST | A0, // FCMP_OR.v2f16
-    0x0F4,
-    24,
-    2,
-    0x01,
-    0x7FFFFFF7FFFFFFFF,
-    THREE | HIGH_2,
-    C | T | N0 | N1 | F0 | F1,
-    DEST | A0, // FCMP_AND.f32
-    0x0F5,
-    24,
-    2,
-    0x01,
-    0x7FFFFFF7FFFFFFFF,
-    THREE | HIGH_2,
-    C | T | N0 | N1 | H0 | H1,
-    DEST | A0, // FCMP_AND.v2f16
-    0x0F8,
-    24,
-    2,
-    0x00,
-    0x7FFFFFF7FFFFFFFF,
-    THREE | HIGH_2,
-    I | T | W32_0 | W32_1,
-    DEST, // ICMP_OR.s32
-    0x0F9,
-    24,
-    2,
-    0x00,
-    0x7FFFFFF7FFFFFFFF,
-    THREE | HIGH_2,
-    I | T | W16_0 | W16_1,
-    DEST, // ICMP_OR.v2s16
-    0x0FA,
-    24,
-    2,
-    0x00,
-    0x7FFFFFF7FFFFFFFF,
-    THREE | HIGH_2,
-    I | T | W8_0 | W8_1,
-    DEST, // ICMP_OR.v4s8
-    // width; legal values; default; refusal number
-    0,
-    0x0000,
-    0,
-    0, // absent
-    1,
-    0x0003,
-    0,
-    6, // flag
-    2,
-    0x000F,
-    0,
-    6, // two bits
-    2,
-    0x0007,
-    0,
-    6, // widen, F
-    2,
-    0x000F,
-    2,
-    6, // swizzle of halves, H
-    4,
-    0x00FD,
-    0,
-    6, // swizzle, W32
-    4,
-    0x3FFF,
-    2,
-    6, // swizzle, W16
-    4,
-    0x0FFF,
-    0,
-    6, // swizzle, W8
-    4,
-    0xFFFF,
-    0,
-    6, // half-swizzle
-    3,
-    0x00FF,
-    0,
-    6, // condition, C
-    3,
-    0x003F,
-    0,
-    6, // condition of integers, I
-    2,
-    0x000F,
-    1,
-    6, // mux, X
-    3,
-    0x001F,
-    0,
-    6, // combine
-    2,
-    0x0007,
-    0,
-    6, // NaN mode
-    8,
-    0x0000,
-    0,
-    7, // source
-    27,
-    0x0000,
-    0,
-    0, // offset
-    2,
-    0x0000,
-    0,
-    0, // secondary opcode
-    4,
-    0x0000,
-    0,
-    0, // secondary opcode
-    5,
-    0x0000,
-    0,
-    0, // secondary opcode
-    6,
-    0x0000,
-    0,
-    0, // register
-    2,
-    0x000E,
-    3,
-    5, // half mask
-    9,
-    0x0000,
-    0,
-    0, // opcode
-    2,
-    0x0000,
-    0,
-    0, // page
-    4,
-    0xA7FF,
-    0,
-    4, // flow
-    0,
-    8,
-    8,
-    8,
-    10,
-    11,
-    16,
-    16,
-    24,
-    24,
-    24,
-    26,
-    28,
-    30,
-    32,
-    34,
-    35,
-    36,
-    37,
-    38,
-    39,
-    40,
-    46,
-    48,
-    57,
-    59,
-    // the special constants that are not reserved
-    0xFF74,
-    0x008A,
-    0x0000,
-    0x800A,
+    [0x000, 0, 0, 0x00, 0x7FFF000000000000, 0, 0, FRAME], // NOP
+    [
+        0x01F,
+        0,
+        0,
+        0x00,
+        0x7FFF00FFFFFFFFFF,
+        ONE | JUMP,
+        BRANCH,
+        FRAME,
+    ], // BRANCHZ
+    [
+        0x020,
+        0,
+        0,
+        0x00,
+        0x7FFF00F73C00FFFF,
+        TWO,
+        N0 | F0 | N1 | F1 | C,
+        FRAME | A0,
+    ], // DISCARD.f32
+    [0x154, 0, 0, 0x00, 0x7FFFFF07FFFFFFFF, FOUR, C, DEST], // CSEL.f32
+    [0x155, 0, 0, 0x00, 0x7FFFFF07FFFFFFFF, FOUR, C, DEST], // CSEL.v2f16
+    [
+        0x090,
+        16,
+        5,
+        0x07,
+        0x7FFFFFF0C01F00FF,
+        ONE | LOW_5,
+        R | W16_0,
+        DEST,
+    ], // V2S16_TO_V2F16
+    [
+        0x090,
+        16,
+        5,
+        0x17,
+        0x7FFFFFF0C01F00FF,
+        ONE | LOW_5,
+        R | W16_0,
+        DEST,
+    ], // V2U16_TO_V2F16
+    [
+        0x090,
+        16,
+        5,
+        0x09,
+        0x7FFFFFF0C01F00FF,
+        ONE | LOW_5,
+        R | W32_0,
+        DEST,
+    ], // S32_TO_F32
+    [
+        0x090,
+        16,
+        5,
+        0x19,
+        0x7FFFFFF0C01F00FF,
+        ONE | LOW_5,
+        R | W32_0,
+        DEST,
+    ], // U32_TO_F32
+    [
+        0x090,
+        16,
+        5,
+        0x04,
+        0x7FFFFF00301F00FF,
+        ONE | LOW_5,
+        H0,
+        DEST,
+    ], // S16_TO_S32
+    [
+        0x090,
+        16,
+        5,
+        0x05,
+        0x7FFFFF00301F00FF,
+        ONE | LOW_5,
+        H0,
+        DEST,
+    ], // S16_TO_F32
+    [
+        0x090,
+        16,
+        5,
+        0x14,
+        0x7FFFFF00301F00FF,
+        ONE | LOW_5,
+        H0,
+        DEST,
+    ], // U16_TO_U32
+    [
+        0x090,
+        16,
+        5,
+        0x15,
+        0x7FFFFF00301F00FF,
+        ONE | LOW_5,
+        H0,
+        DEST,
+    ], // U16_TO_F32
+    [
+        0x090,
+        16,
+        5,
+        0x0C,
+        0x7FFFFFC0C01F00FF,
+        ONE | LOW_5,
+        R | N0,
+        DEST | A0,
+    ], // F32_TO_S32
+    [
+        0x090,
+        16,
+        5,
+        0x1C,
+        0x7FFFFFC0C01F00FF,
+        ONE | LOW_5,
+        R | N0,
+        DEST | A0,
+    ], // F32_TO_U32
+    [
+        0x090,
+        16,
+        5,
+        0x0E,
+        0x7FFFFFC0F01F00FF,
+        ONE | LOW_5,
+        R | N0 | H0,
+        DEST | A0,
+    ], // V2F16_TO_V2S16
+    [
+        0x090,
+        16,
+        5,
+        0x1E,
+        0x7FFFFFC0F01F00FF,
+        ONE | LOW_5,
+        R | N0 | H0,
+        DEST | A0,
+    ], // V2F16_TO_V2U16
+    [
+        0x090,
+        16,
+        5,
+        0x0A,
+        0x7FFFFFC0F01F00FF,
+        ONE | LOW_5,
+        R | N0 | H0,
+        DEST | A0,
+    ], // F16_TO_S32
+    [
+        0x090,
+        16,
+        5,
+        0x1A,
+        0x7FFFFFC0F01F00FF,
+        ONE | LOW_5,
+        R | N0 | H0,
+        DEST | A0,
+    ], // F16_TO_U32
+    [
+        0x090,
+        16,
+        5,
+        0x0B,
+        0x7FFFFFC0D01F00FF,
+        ONE | LOW_5,
+        R | N0 | LANE_BIT,
+        DEST | A0,
+    ], // F16_TO_F32
+    [
+        0x090,
+        16,
+        5,
+        0x00,
+        0x7FFFFF00301F00FF,
+        ONE | LOW_5,
+        LANE,
+        DEST,
+    ], // S8_TO_S32
+    [
+        0x090,
+        16,
+        5,
+        0x01,
+        0x7FFFFF00301F00FF,
+        ONE | LOW_5,
+        LANE,
+        DEST,
+    ], // S8_TO_F32
+    [
+        0x090,
+        16,
+        5,
+        0x10,
+        0x7FFFFF00301F00FF,
+        ONE | LOW_5,
+        LANE,
+        DEST,
+    ], // U8_TO_U32
+    [
+        0x090,
+        16,
+        5,
+        0x11,
+        0x7FFFFF00301F00FF,
+        ONE | LOW_5,
+        LANE,
+        DEST,
+    ], // U8_TO_F32
+    [
+        0x090,
+        16,
+        5,
+        0x02,
+        0x7FFFFFF0001F00FF,
+        ONE | LOW_5,
+        HALVES,
+        DEST,
+    ], // V2S8_TO_V2S16
+    [
+        0x090,
+        16,
+        5,
+        0x03,
+        0x7FFFFFF0001F00FF,
+        ONE | LOW_5,
+        HALVES,
+        DEST,
+    ], // V2S8_TO_V2F16
+    [
+        0x090,
+        16,
+        5,
+        0x12,
+        0x7FFFFFF0001F00FF,
+        ONE | LOW_5,
+        HALVES,
+        DEST,
+    ], // V2U8_TO_V2U16
+    [
+        0x090,
+        16,
+        5,
+        0x13,
+        0x7FFFFFF0001F00FF,
+        ONE | LOW_5,
+        HALVES,
+        DEST,
+    ], // V2U8_TO_V2F16
+    [
+        0x090,
+        16,
+        5,
+        0x0D,
+        0x7FFFFFC0F01F00FF,
+        ONE | LOW_5,
+        R | N0 | F0,
+        DEST | A0,
+    ], // FROUND.f32
+    [
+        0x090,
+        16,
+        5,
+        0x0F,
+        0x7FFFFFC0F01F00FF,
+        ONE | LOW_5,
+        R | N0 | H0,
+        DEST | A0,
+    ], // FROUND.v2f16
+    [0x091, 16, 4, 0x00, 0x7FFFFF00000F00FF, ONE | LOW_4, 0, DEST], // MOV.i32
+    [0x091, 16, 4, 0x04, 0x7FFFFF00000F00FF, ONE | LOW_4, 0, DEST], // CLZ.u32
+    [
+        0x091,
+        16,
+        4,
+        0x05,
+        0x7FFFFF00300F00FF,
+        ONE | LOW_4,
+        H0,
+        DEST,
+    ], // CLZ.v2u16
+    [0x091, 16, 4, 0x06, 0x7FFFFF00000F00FF, ONE | LOW_4, 0, DEST], // CLZ.v4u8
+    [
+        0x091,
+        16,
+        4,
+        0x08,
+        0x7FFFFFF0000F00FF,
+        ONE | LOW_4,
+        W32_0,
+        DEST,
+    ], // IABS.s32
+    [
+        0x091,
+        16,
+        4,
+        0x09,
+        0x7FFFFFF0000F00FF,
+        ONE | LOW_4,
+        W16_0,
+        DEST,
+    ], // IABS.v2s16
+    [0x091, 16, 4, 0x0A, 0x7FFFFF00000F00FF, ONE | LOW_4, 0, DEST], // IABS.v4s8
+    [0x091, 16, 4, 0x0C, 0x7FFFFF00000F00FF, ONE | LOW_4, 0, DEST], // POPCOUNT.i32
+    [0x091, 16, 4, 0x0D, 0x7FFFFF00000F00FF, ONE | LOW_4, 0, DEST], // BITREV.i32
+    [0x091, 16, 4, 0x0E, 0x7FFFFF00000F00FF, ONE | LOW_4, 0, DEST], // NOT_OLD.i32
+    [
+        0x098,
+        16,
+        4,
+        0x00,
+        0x7FFFFFC0300F0FFF,
+        ONE | LOW_4 | FLUSH,
+        N0 | F0,
+        DEST | A0,
+    ], // FLUSH.f32
+    [
+        0x098,
+        16,
+        4,
+        0x01,
+        0x7FFFFFC0300F0FFF,
+        ONE | LOW_4 | FLUSH,
+        N0 | H0,
+        DEST | A0,
+    ], // FLUSH.v2f16
+    [
+        0x09C,
+        16,
+        4,
+        0x00,
+        0x7FFFFFC0300F00FF,
+        ONE | LOW_4,
+        N0 | F0,
+        DEST | A0,
+    ], // FRCP.f32
+    [
+        0x09C,
+        16,
+        4,
+        0x02,
+        0x7FFFFFC0300F00FF,
+        ONE | LOW_4,
+        N0 | F0,
+        DEST | A0,
+    ], // FRSQ.f32
+    [
+        0x09C,
+        16,
+        4,
+        0x08,
+        0x7FFFFFC0300F00FF,
+        ONE | LOW_4,
+        N0 | F0,
+        DEST | A0,
+    ], // FLOGD.f32
+    [
+        0x09C,
+        16,
+        4,
+        0x0A,
+        0x7FFFFFC0300F00FF,
+        ONE | LOW_4,
+        N0 | F0,
+        DEST | A0,
+    ], // FPCLASS.f32
+    [
+        0x09C,
+        16,
+        4,
+        0x0C,
+        0x7FFFFFC0300F00FF,
+        ONE | LOW_4,
+        N0 | F0,
+        DEST | A0,
+    ], // FLOG_TABLE.f32
+    [
+        0x09C,
+        16,
+        4,
+        0x0E,
+        0x7FFFFFC0300F00FF,
+        ONE | LOW_4,
+        N0 | F0,
+        DEST | A0,
+    ], // FRCP_APPROX.f32
+    [
+        0x09C,
+        16,
+        4,
+        0x0F,
+        0x7FFFFFC0300F00FF,
+        ONE | LOW_4,
+        N0 | F0,
+        DEST | A0,
+    ], // FRSQ_APPROX.f32
+    [0x09C, 16, 4, 0x04, 0x7FFFFF00000F00FF, ONE | LOW_4, 0, DEST], // FSIN_TABLE.u6
+    [0x09C, 16, 4, 0x05, 0x7FFFFF00000F00FF, ONE | LOW_4, 0, DEST], // FCOS_TABLE.u6
+    [0x09C, 16, 4, 0x06, 0x7FFFFF00000F00FF, ONE | LOW_4, 0, DEST], // FSINCOS_OFFSET.u6
+    [0x09C, 16, 4, 0x0D, 0x7FFFFF00000F00FF, ONE | LOW_4, 0, DEST], // FEXP_TABLE.u4
+    [
+        0x0A4,
+        16,
+        4,
+        0x00,
+        0x7FFFFFF33C0FFFFF,
+        TWO | LOW_4,
+        N0 | N1 | CLAMP | F0 | F1,
+        DEST | A0,
+    ], // FADD.f32
+    [
+        0x0A5,
+        16,
+        4,
+        0x00,
+        0x7FFFFFF33C0FFFFF,
+        TWO | LOW_4,
+        N0 | N1 | CLAMP | H0 | H1,
+        DEST | A0,
+    ], // FADD.v2f16
+    [0x0B8, 0, 0, 0x00, 0x7FFFFF0300FFFFFF, THREE, X, DEST], // MUX.i32
+    [
+        0x0B9,
+        0,
+        0,
+        0x00,
+        0x7FFFFF033FFFFFFF,
+        THREE,
+        X | H0 | H1 | H2,
+        DEST,
+    ], // MUX.v2i16
+    [0x0BA, 0, 0, 0x00, 0x7FFFFF0300FFFFFF, THREE, X, DEST], // MUX.v4i8
+    [
+        0x0BC,
+        24,
+        4,
+        0x00,
+        0x7FFFFFF00FFFFFFF,
+        THREE | HIGH_4,
+        N0 | N1,
+        DEST | A0,
+    ], // CUBE_SSEL
+    [
+        0x0BC,
+        24,
+        4,
+        0x01,
+        0x7FFFFFF00FFFFFFF,
+        THREE | HIGH_4,
+        N0 | N1,
+        DEST | A0,
+    ], // CUBE_TSEL
+    [
+        0x0C0,
+        0,
+        0,
+        0x00,
+        0x7FFFFFFC00FFFFFF,
+        THREE,
+        N0 | N1 | N2,
+        DEST | A0,
+    ], // CUBEFACE1
+    [
+        0x0C1,
+        0,
+        0,
+        0x00,
+        0x7FFFFFFC00FFFFFF,
+        THREE,
+        N0 | N1 | N2,
+        DEST | A0,
+    ], // CUBEFACE2_V9
+    [
+        0x0C2,
+        24,
+        4,
+        0x00,
+        0x7FFFFF004FFFFFFF,
+        THREE | HIGH_4,
+        SATURATE,
+        DEST,
+    ], // IDP.v4s8
+    [
+        0x0C2,
+        24,
+        4,
+        0x01,
+        0x7FFFFF004FFFFFFF,
+        THREE | HIGH_4,
+        SATURATE,
+        DEST,
+    ], // IDP.v4u8
+    [
+        0x0F0,
+        24,
+        2,
+        0x00,
+        0x7FFFFFF7FFFFFFFF,
+        THREE | HIGH_2,
+        I | T | W32_0 | W32_1,
+        DEST,
+    ], // ICMP_OR.u32
+    [
+        0x0F1,
+        24,
+        2,
+        0x00,
+        0x7FFFFFF7FFFFFFFF,
+        THREE | HIGH_2,
+        I | T | W16_0 | W16_1,
+        DEST,
+    ], // ICMP_OR.v2u16
+    [
+        0x0F2,
+        24,
+        2,
+        0x00,
+        0x7FFFFFF7FFFFFFFF,
+        THREE | HIGH_2,
+        I | T | W8_0 | W8_1,
+        DEST,
+    ], // ICMP_OR.v4u8
+    [
+        0x0F0,
+        24,
+        2,
+        0x01,
+        0x7FFFFFF7FFFFFFFF,
+        THREE | HIGH_2,
+        I | T | W32_0 | W32_1,
+        DEST,
+    ], // ICMP_AND.u32
+    [
+        0x0F1,
+        24,
+        2,
+        0x01,
+        0x7FFFFFF7FFFFFFFF,
+        THREE | HIGH_2,
+        I | T | W16_0 | W16_1,
+        DEST,
+    ], // ICMP_AND.v2u16
+    [
+        0x0F2,
+        24,
+        2,
+        0x01,
+        0x7FFFFFF7FFFFFFFF,
+        THREE | HIGH_2,
+        I | T | W8_0 | W8_1,
+        DEST,
+    ], // ICMP_AND.v4u8
+    [
+        0x0F4,
+        24,
+        2,
+        0x00,
+        0x7FFFFFF7FFFFFFFF,
+        THREE | HIGH_2,
+        C | T | N0 | N1 | F0 | F1,
+        DEST | A0,
+    ], // FCMP_OR.f32
+    [
+        0x0F5,
+        24,
+        2,
+        0x00,
+        0x7FFFFFF7FFFFFFFF,
+        THREE | HIGH_2,
+        C | T | N0 | N1 | H0 | H1,
+        DEST | A0,
+    ], // FCMP_OR.v2f16
+    [
+        0x0F4,
+        24,
+        2,
+        0x01,
+        0x7FFFFFF7FFFFFFFF,
+        THREE | HIGH_2,
+        C | T | N0 | N1 | F0 | F1,
+        DEST | A0,
+    ], // FCMP_AND.f32
+    [
+        0x0F5,
+        24,
+        2,
+        0x01,
+        0x7FFFFFF7FFFFFFFF,
+        THREE | HIGH_2,
+        C | T | N0 | N1 | H0 | H1,
+        DEST | A0,
+    ], // FCMP_AND.v2f16
+    [
+        0x0F8,
+        24,
+        2,
+        0x00,
+        0x7FFFFFF7FFFFFFFF,
+        THREE | HIGH_2,
+        I | T | W32_0 | W32_1,
+        DEST,
+    ], // ICMP_OR.s32
+    [
+        0x0F9,
+        24,
+        2,
+        0x00,
+        0x7FFFFFF7FFFFFFFF,
+        THREE | HIGH_2,
+        I | T | W16_0 | W16_1,
+        DEST,
+    ], // ICMP_OR.v2s16
+    [
+        0x0FA,
+        24,
+        2,
+        0x00,
+        0x7FFFFFF7FFFFFFFF,
+        THREE | HIGH_2,
+        I | T | W8_0 | W8_1,
+        DEST,
+    ], // ICMP_OR.v4s8
+    // a kind: width; legal values; default; refusal number
+    [0, 0x0001, 0, 0, 0, 0, 0, 0], // absent
+    [1, 0x0003, 0, 6, 0, 0, 0, 0], // flag
+    [2, 0x000F, 0, 6, 0, 0, 0, 0], // two bits
+    [2, 0x0007, 0, 6, 0, 0, 0, 0], // widen, F
+    [2, 0x000F, 2, 6, 0, 0, 0, 0], // swizzle of halves, H
+    [4, 0x00FD, 0, 6, 0, 0, 0, 0], // swizzle, W32
+    [4, 0x3FFF, 2, 6, 0, 0, 0, 0], // swizzle, W16
+    [4, 0x0FFF, 0, 6, 0, 0, 0, 0], // swizzle, W8
+    [4, 0xFFFF, 0, 6, 0, 0, 0, 0], // half-swizzle
+    [3, 0x00FF, 0, 6, 0, 0, 0, 0], // condition, C
+    [3, 0x003F, 0, 6, 0, 0, 0, 0], // condition of integers, I
+    [2, 0x000F, 1, 6, 0, 0, 0, 0], // mux, X
+    [3, 0x001F, 0, 6, 0, 0, 0, 0], // combine
+    [2, 0x0007, 0, 6, 0, 0, 0, 0], // NaN mode
+    [8, 0x0000, 0, 7, 0, 0, 0, 0], // source
+    [27, 0x0000, 0, 0, 0, 0, 0, 0], // offset
+    [2, 0x0000, 0, 0, 0, 0, 0, 0], // secondary opcode
+    [4, 0x0000, 0, 0, 0, 0, 0, 0], // secondary opcode
+    [5, 0x0000, 0, 0, 0, 0, 0, 0], // secondary opcode
+    [6, 0x0000, 0, 0, 0, 0, 0, 0], // register
+    [2, 0x000E, 3, 5, 0, 0, 0, 0], // half mask
+    [9, 0x0000, 0, 0, 0, 0, 0, 0], // opcode
+    [2, 0x0000, 0, 0, 0, 0, 0, 0], // page
+    [4, 0xA7FF, 0, 4, 0, 0, 0, 0], // flow
+    // the lowest bits of the fields
+    [0, 8, 8, 8, 10, 11, 16, 16],
+    [24, 24, 24, 26, 28, 30, 32, 34],
+    [35, 36, 37, 38, 39, 40, 46, 48],
+    [57, 59, 0, 0, 0, 0, 0, 0],
+    // the special constants that are not reserved, of each page
+    [0xFF74, 0x008A, 0x0000, 0x800A, 0, 0, 0, 0],
 ];
 
 // The table, for a caller to make once and lend.
-pub fn made() -> [u64; LENGTH]
+pub fn made() -> Table
     ensures { λ r. ⌜ r ≡ table ⌝ }
 {
     TABLE
 }
 
 // Number j of row `row`.
-pub(crate) fn row_word(t: &[u64; LENGTH], row: usize, j: usize) -> u64
-    requires { ⌜ (now t ≡ table) × (row < row-count) × (j < row-length) ⌝ }
-    ensures { λ r. ⌜ r ≡ getD table (row * row-length + j) 0 ⌝ }
+pub(crate) fn row_word(t: &Table, row: usize, j: usize) -> u64
+    requires { ⌜ (now t ≡ table) × (row < row-count) × (j < 8) ⌝ }
+    ensures { λ r. ⌜ r ≡ getD (row-words (row-of row)) j 0 ⌝ }
 {
-    t[row * ROW_LENGTH + j]
+    t[row][j]
 }
 
 // The number of the kind of field i of a row.
-fn kind_at(t: &[u64; LENGTH], row: usize, i: usize) -> usize
+fn kind_at(t: &Table, row: usize, i: usize) -> usize
     requires { ⌜ (now t ≡ table) × (row < row-count) × (i < slot-count) ⌝ }
     ensures { λ r. ⌜ (r ≡ kind-number (kind-of row i)) × (r < kind-count) ⌝ }
 {
@@ -984,15 +893,15 @@ fn kind_at(t: &[u64; LENGTH], row: usize, i: usize) -> usize
 }
 
 // Number j of a kind.
-fn kind_word(t: &[u64; LENGTH], kind: usize, j: usize) -> u64
-    requires { ⌜ (now t ≡ table) × (kind < kind-count) × (j < kind-length) ⌝ }
-    ensures { λ r. ⌜ r ≡ getD table (kinds-at + (kind * kind-length + j)) 0 ⌝ }
+fn kind_word(t: &Table, kind: usize, j: usize) -> u64
+    requires { ⌜ (now t ≡ table) × (kind < kind-count) × (j < 8) ⌝ }
+    ensures { λ r. ⌜ r ≡ getD (kind-words (getD kinds kind absent)) j 0 ⌝ }
 {
-    t[KINDS_AT + (kind * KIND_LENGTH + j)]
+    t[KINDS_AT + kind][j]
 }
 
 // The width of field i of a row.
-pub(crate) fn width_at(t: &[u64; LENGTH], row: usize, i: usize) -> u64
+pub(crate) fn width_at(t: &Table, row: usize, i: usize) -> u64
     requires { ⌜ (now t ≡ table) × (row < row-count) × (i < slot-count) ⌝ }
     ensures { λ r. ⌜ r ≡ width-of row i ⌝ }
 {
@@ -1000,7 +909,7 @@ pub(crate) fn width_at(t: &[u64; LENGTH], row: usize, i: usize) -> u64
 }
 
 // The set of its legal values, where it is no source.
-pub(crate) fn legal_at(t: &[u64; LENGTH], row: usize, i: usize) -> u64
+pub(crate) fn legal_at(t: &Table, row: usize, i: usize) -> u64
     requires { ⌜ (now t ≡ table) × (row < row-count) × (i < slot-count) ⌝ }
     ensures { λ r. ⌜ r ≡ legal-set (kind-of row i) ⌝ }
 {
@@ -1008,7 +917,7 @@ pub(crate) fn legal_at(t: &[u64; LENGTH], row: usize, i: usize) -> u64
 }
 
 // Its default.
-pub(crate) fn default_at(t: &[u64; LENGTH], row: usize, i: usize) -> u8
+pub(crate) fn default_at(t: &Table, row: usize, i: usize) -> u8
     requires { ⌜ (now t ≡ table) × (row < row-count) × (i < slot-count) ⌝ }
     ensures { λ r. ⌜ r ≡ default-of row i ⌝ }
 {
@@ -1016,7 +925,7 @@ pub(crate) fn default_at(t: &[u64; LENGTH], row: usize, i: usize) -> u8
 }
 
 // The refusal that an illegal value of it gets, or 0.
-pub(crate) fn number_at(t: &[u64; LENGTH], row: usize, i: usize) -> u64
+pub(crate) fn number_at(t: &Table, row: usize, i: usize) -> u64
     requires { ⌜ (now t ≡ table) × (row < row-count) × (i < slot-count) ⌝ }
     ensures { λ r. ⌜ r ≡ about (kind-of row i) .number ⌝ }
 {
@@ -1024,17 +933,17 @@ pub(crate) fn number_at(t: &[u64; LENGTH], row: usize, i: usize) -> u64
 }
 
 // The lowest bit of field i, the same in all rows.
-pub(crate) fn low_at(t: &[u64; LENGTH], i: usize) -> u64
+pub(crate) fn low_at(t: &Table, i: usize) -> u64
     requires { ⌜ (now t ≡ table) × (i < slot-count) ⌝ }
     ensures { λ r. ⌜ (r ≡ low-of i) × (r < 64) ⌝ }
 {
-    t[LOWS_AT + i]
+    t[LOWS_AT + i / 8][i % 8]
 }
 
 // The special constants of a page that are not reserved.
-pub(crate) fn page_at(t: &[u64; LENGTH], page: u64) -> u64
+pub(crate) fn page_at(t: &Table, page: u64) -> u64
     requires { ⌜ (now t ≡ table) × (page < 4) ⌝ }
     ensures { λ r. ⌜ r ≡ page-word page ⌝ }
 {
-    t[PAGES_AT + page as usize]
+    t[PAGES_AT][page as usize]
 }

@@ -9,6 +9,7 @@ ghost use Rattle.isa.specs.Layout.{slots, slot-count, width-of};
 ghost use Rattle.isa.specs.Instructions.{offset-number, second-number, numbers};
 ghost use Rattle.isa.specs.Writer.{judge-instruction, fields, same-list, same, is-record, write, stored};
 ghost use Rattle.isa.specs.Answers.{judging, reading, writing};
+ghost use Rattle.isa.specs.Demand2.{WrittenAsAsked};
 ghost use Rattle.isa.specs.Table.{table};
 use crate::answer::Legality;
 use crate::answer::Reading;
@@ -38,7 +39,7 @@ fn offset_number(z: i32) -> u64
 }
 
 // A row's secondary opcode, if it stands at this bit, else 0.
-fn second_at(t: &[u64; table::LENGTH], row: usize, bit: u64) -> u64
+fn second_at(t: &table::Table, row: usize, bit: u64) -> u64
     requires { ⌜ (now t ≡ table) × (row < row-count) ⌝ }
     ensures { λ r. ⌜ r ≡ second-number row bit ⌝ }
 {
@@ -50,7 +51,7 @@ fn second_at(t: &[u64; table::LENGTH], row: usize, bit: u64) -> u64
 }
 
 // The numbers of an instruction's word, from bit 0 up.
-pub(crate) fn numbers_of(t: &[u64; table::LENGTH], i: Instruction) -> [u64; table::SLOTS]
+pub(crate) fn numbers_of(t: &table::Table, i: Instruction) -> [u64; table::SLOTS]
     requires { ⌜ (now t ≡ table) × (i .row < row-count) ⌝ }
     ensures { λ v. ⌜ v ≡ numbers i ⌝ }
 {
@@ -92,7 +93,7 @@ pub(crate) fn numbers_of(t: &[u64; table::LENGTH], i: Instruction) -> [u64; tabl
 }
 
 // Does a number have room in field i?
-fn has_room(t: &[u64; table::LENGTH], row: usize, i: usize, v: u64) -> bool
+fn has_room(t: &table::Table, row: usize, i: usize, v: u64) -> bool
     requires { ⌜ (now t ≡ table) × (row < row-count) × (i < slot-count) ⌝ }
     ensures { λ r. ⌜ r ≡ ltb v (2 ^ width-of row i) ⌝ }
 {
@@ -100,7 +101,7 @@ fn has_room(t: &[u64; table::LENGTH], row: usize, i: usize, v: u64) -> bool
 }
 
 // Does each number have room?
-fn fit_numbers(t: &[u64; table::LENGTH], row: usize, v: [u64; table::SLOTS]) -> bool
+fn fit_numbers(t: &table::Table, row: usize, v: [u64; table::SLOTS]) -> bool
     requires { ⌜ (now t ≡ table) × (row < row-count) ⌝ }
     ensures { λ r. ⌜ r ≡ fit (slots (row-of row)) v ⌝ }
 {
@@ -115,7 +116,7 @@ fn fit_numbers(t: &[u64; table::LENGTH], row: usize, v: [u64; table::SLOTS]) -> 
 }
 
 // The word with these numbers.
-fn join_numbers(t: &[u64; table::LENGTH], row: usize, v: [u64; table::SLOTS]) -> u64
+fn join_numbers(t: &table::Table, row: usize, v: [u64; table::SLOTS]) -> u64
     requires { ⌜ (now t ≡ table) × (row < row-count) × T (fit (slots (row-of row)) v) ⌝ }
     ensures { λ r. ⌜ r ≡ join (slots (row-of row)) v ⌝ }
 {
@@ -129,7 +130,7 @@ fn join_numbers(t: &[u64; table::LENGTH], row: usize, v: [u64; table::SLOTS]) ->
 }
 
 // What an instruction gets: 2, then 9, then 4 to 7.
-fn judge_instruction(t: &[u64; table::LENGTH], i: Instruction) -> Legality
+fn judge_instruction(t: &table::Table, i: Instruction) -> Legality
     requires { ⌜ now t ≡ table ⌝ }
     ensures { λ d. ⌜ judging d ≡ judge-instruction i ⌝ }
 {
@@ -221,6 +222,7 @@ fn is_record(x: Reading, i: Instruction) -> bool
 pub fn write_word(i: Instruction, buffer: &mut [u8]) -> Written
     ensures answer { λ a. ⌜ writing a ≡ write i (now (buffer .entry)) ⌝ }
     ensures kept { λ a. ⌜ now (buffer .exit) ≡ stored i (now (buffer .entry)) ⌝ }
+    ensures demand { λ a. ⌜ WrittenAsAsked i (now (buffer .entry)) (writing a) (now (buffer .exit)) ⌝ }
 {
     if buffer.len() != 8 {
         return Written::Refused(Refusal {

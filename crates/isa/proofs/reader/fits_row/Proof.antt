@@ -6,7 +6,6 @@ use native.Mathlib.Omega.{arith}
 use lib.ListN.{length, getD, drop}
 use lib.Dec.{eqb}
 use Rattle.bits.specs.Fields.{bits}
-use Rattle.isa.proofs.TableLaws.{row-word-eq}
 use Rattle.isa.proofs.RowLaws.{secondary}
 use Rattle.isa.proofs.ReaderLaws.{fits-no, fits-rest}
 use borrow.Author.Needs.{needs}
@@ -20,9 +19,7 @@ row-word-requires : tie.Need-row-word-requires
 row-word-requires c κs = search needs
 
 returns : tie.Need-returns
-returns c =
-    let a = c .before .before .before .args in
-    fits-no (a .k) (a .w) (c .before .before .before .pre .1) (c .before .before .bits-at .ensures .0) (λ e. c .if1 .taken (e ∙ sym (c .before .row-word .ensures)))
+returns c = fits-no (c .before .before .before .args .k) (c .before .before .before .args .w) (c .before .before .bits-at .ensures .0) (λ e. c .if1 .taken (e ∙ sym (c .before .row-word .ensures)))
 
 row-word-requires-2 : tie.Need-row-word-requires-2
 row-word-requires-2 c κs = search needs
@@ -32,12 +29,8 @@ row-word-requires-3 c κs = search needs
 
 bits-at-requires-2 : tie.Need-bits-at-requires-2
 bits-at-requires-2 c κs =
-    let k = c .before .before .before .before .before .args .k in
-    let h = c .before .before .before .before .before .pre .1 in
-    let s = secondary k h in (
-      omega (arith, c .before .row-word2 .ensures, row-word-eq k 1 h (omega arith), s .low-lt),
-      omega (arith, c .row-word3 .ensures, row-word-eq k 2 h (omega arith), s .width-lt),
-    )
+    let s = secondary (c .before .before .before .before .before .args .k) (c .before .before .before .before .before .pre .1) in
+    (omega (arith, c .before .row-word2 .ensures, s .low-lt), omega (arith, c .row-word3 .ensures, s .width-lt))
 
 row-word-requires-4 : tie.Need-row-word-requires-4
 row-word-requires-4 c κs = search needs
@@ -46,7 +39,7 @@ returns-2 : tie.Need-returns-2
 returns-2 c =
     let a = c .before .before .before .before .before .before .before .args in
     ap (λ (x : ℕ). eqb (c .before .bits-at2 .result) x) (c .row-word4 .ensures)
-    ∙ fits-rest (a .k) (a .w) (c .before .before .before .before .before .before .before .pre .1) (c .before .before .before .before .before .before .bits-at .ensures .0) (c .before .before .before .before .if1 .left ∙ c .before .before .before .before .before .row-word .ensures)
+    ∙ fits-rest (a .k) (a .w) (c .before .before .before .before .before .before .bits-at .ensures .0) (c .before .before .before .before .if1 .left ∙ c .before .before .before .before .before .row-word .ensures)
     (c .before .bits-at2 .ensures .0 ∙ (λ j. bits (a .w) (c .before .before .before .row-word2 .ensures j) (c .before .before .row-word3 .ensures j)))
 
 pub fits-row-spec : {M : Type 1} → statement M

@@ -5,7 +5,6 @@ use Prim.Native.Nat.{ℕ, zero, suc, _+_, _-_, _*_, _/_, _%_, _^_, _<_, _≤_}
 use native.Mathlib.Omega.{arith}
 use lib.ListN.{length, getD, drop}
 use Rattle.bits.specs.Sets.{minus, lowest}
-use Rattle.isa.proofs.TableLaws.{row-word-eq}
 use Rattle.isa.proofs.ReaderLaws.{stray-eq}
 use borrow.Author.Needs.{needs}
 use Rattle.isa.proofs.reader.lowest_stray.Statement.{statement}
@@ -23,10 +22,9 @@ lowest-requires c κs = search needs
 returns : tie.Need-returns
 returns c =
     let a = c .before .before .before .args in
-    let h = c .before .before .before .pre .1 in
     c .«lowest» .ensures .0
-    ∙ ap lowest (c .before .missing .ensures ∙ ap (minus (a .w)) (c .before .before .row-word .ensures ∙ row-word-eq (a .row) 4 h (omega arith)))
-    ∙ stray-eq (a .row) (a .w) h
+    ∙ ap lowest (c .before .missing .ensures ∙ ap (minus (a .w)) (c .before .before .row-word .ensures))
+    ∙ stray-eq (a .row) (a .w) (c .before .before .before .pre .1)
 
 pub lowest-stray-spec : {M : Type 1} → statement M
 lowest-stray-spec = tie.close (tie.spec row-word-requires missing-requires lowest-requires returns)

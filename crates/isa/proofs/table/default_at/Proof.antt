@@ -1,12 +1,12 @@
 use mathlib.Core.Path.{_≡_, refl, sym, ap, _∙_}
 use Prim.Native.Nat.{ℕ, _+_, _*_, _/_, _%_, _^_, _<_}
-use mathlib.Core.List.{List}
+use mathlib.Core.List.{List, []}
 use lib.ListN.{getD}
-use Rattle.isa.specs.Kinds.{about}
-use Rattle.isa.specs.Layout.{kind-of}
-use Rattle.isa.specs.Table.{kind-length, kinds-at, table}
-use Rattle.isa.proofs.TableLaws.{kind-word-eq, kinded}
 use native.Mathlib.Omega.{arith}
+use Rattle.isa.specs.Kinds.{about, absent}
+use Rattle.isa.specs.Layout.{kind-of}
+use Rattle.isa.specs.Table.{kinds, kind-words}
+use Rattle.isa.proofs.TableLaws.{kinded}
 use borrow.Author.Needs.{needs}
 use Rattle.isa.proofs.table.default_at.Statement.{statement}
 use Rattle.isa.proofs.table.default_at.Tie as tie
@@ -15,11 +15,9 @@ found : (c : tie.After-kind-word) → c .kind-word .result ≡ about (kind-of (c
 found c =
     let a = c .before .before .args in
     let p = c .before .before .pre in
-    let k = kinded (a .row) (a .i) (p .1) (p .2) in
     c .kind-word .ensures
-    ∙ ap (λ (n : ℕ). getD table (kinds-at + (n * kind-length + 2)) 0) (c .before .kind-at .ensures .0)
-    ∙ kind-word-eq _ 2 (k .below) (omega arith)
-    ∙ k .default-same
+    ∙ ap (λ (n : ℕ). getD (kind-words (getD kinds n absent)) 2 0) (c .before .kind-at .ensures .0)
+    ∙ kinded (a .row) (a .i) (p .1) (p .2) .default-same
 
 kind-at-requires : tie.Need-kind-at-requires
 kind-at-requires c κs = search needs

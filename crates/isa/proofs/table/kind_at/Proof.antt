@@ -1,10 +1,10 @@
 use mathlib.Core.Path.{_≡_, refl, sym, ap, _∙_}
 use Prim.Native.Nat.{ℕ, _+_, _*_, _/_, _%_, _^_, _<_}
-use mathlib.Core.List.{List}
+use mathlib.Core.List.{List, []}
 use lib.ListN.{getD}
+use native.Mathlib.Omega.{arith}
 use Rattle.bits.specs.Fields.{bits}
 use Rattle.isa.proofs.TableLaws.{packed-eq, kinded}
-use native.Mathlib.Omega.{arith}
 use borrow.Author.Needs.{needs}
 use Rattle.isa.proofs.table.kind_at.Statement.{statement}
 use Rattle.isa.proofs.table.kind_at.Tie as tie
@@ -28,7 +28,7 @@ returns c =
     let k = kinded (a .row) (a .i) (p .1) (p .2) in
     let e =
     c .bits-at .ensures .0
-    ∙ ap (λ (w : ℕ). bits w (a .i % 10 * 6) 6) (c .before .row-word .ensures ∙ packed-eq (a .row) (a .i / 10) (p .1) (omega arith))
+    ∙ ap (λ (w : ℕ). bits w (a .i % 10 * 6) 6) (c .before .row-word .ensures ∙ packed-eq (a .row) (a .i / 10) (omega arith))
     ∙ k .number in
     (e, omega (arith, e, k .below))
 

@@ -1,31 +1,35 @@
 use mathlib.Core.Path.{_≡_, refl, sym, ap, _∙_}
 use Prim.Native.Nat.{ℕ, _+_, _*_, _/_, _%_, _^_, _<_}
-use mathlib.Core.List.{List}
+use mathlib.Core.List.{List, []}
 use lib.ListN.{getD}
-use Rattle.isa.specs.Table.{kind-length, kinds-at}
+use native.Mathlib.Omega.{arith}
+use Rattle.isa.specs.Table.{kinds-at}
+use Rattle.isa.proofs.TableLaws.{kind-line}
 use borrow.Author.Needs.{needs}
 use Rattle.isa.proofs.table.kind_word.Statement.{statement}
 use Rattle.isa.proofs.table.kind_word.Tie as tie
 
-mul-result : tie.Need-mul-result
-mul-result c = search needs
-
 add-result : tie.Need-add-result
 add-result c = search needs
 
-add-result-2 : tie.Need-add-result-2
-add-result-2 c = search needs
+mul-result : tie.Need-mul-result
+mul-result c = search needs
 
 mul-result-2 : tie.Need-mul-result-2
 mul-result-2 c = search needs
 
-element-copy-out-result : tie.Need-element-copy-out-result
-element-copy-out-result c = search needs
+index-1-result : tie.Need-index-1-result
+index-1-result c = search needs
+
+index-2-result : tie.Need-index-2-result
+index-2-result c = search needs
 
 returns : tie.Need-returns
-returns c = ap (λ (l : List ℕ). getD l (kinds-at + (c .before .args .kind * kind-length + c .before .args .j)) 0) (c .before .pre .0)
+returns c =
+    let a = c .before .args in
+    ap (λ (t : List (List ℕ)). getD (getD t (kinds-at + a .kind) []) (a .j) 0) (c .before .pre .0)
+    ∙ ap (λ (l : List ℕ). getD l (a .j) 0) (kind-line (a .kind) (c .before .pre .1))
 
 pub kind-word-spec : {M : Type 1} → statement M
 kind-word-spec =
-    tie.close
-    (tie.spec mul-result add-result add-result-2 mul-result-2 element-copy-out-result returns)
+    tie.close (tie.spec add-result mul-result mul-result-2 index-1-result index-2-result returns)

@@ -1,10 +1,11 @@
 use mathlib.Core.Path.{_≡_, refl, sym, ap, _∙_}
 use Prim.Native.Nat.{ℕ, _+_, _*_, _/_, _%_, _^_, _<_}
-use mathlib.Core.List.{List}
+use mathlib.Core.List.{List, []}
 use lib.ListN.{getD}
-use Rattle.isa.specs.Table.{kind-length, kinds-at, table}
-use Rattle.isa.proofs.TableLaws.{kind-word-eq, kinded}
 use native.Mathlib.Omega.{arith}
+use Rattle.isa.specs.Kinds.{absent}
+use Rattle.isa.specs.Table.{kinds, kind-words}
+use Rattle.isa.proofs.TableLaws.{kinded}
 use borrow.Author.Needs.{needs}
 use Rattle.isa.proofs.table.legal_at.Statement.{statement}
 use Rattle.isa.proofs.table.legal_at.Tie as tie
@@ -19,11 +20,9 @@ returns : tie.Need-returns
 returns c =
     let a = c .before .before .args in
     let p = c .before .before .pre in
-    let k = kinded (a .row) (a .i) (p .1) (p .2) in
     c .kind-word .ensures
-    ∙ ap (λ (n : ℕ). getD table (kinds-at + (n * kind-length + 1)) 0) (c .before .kind-at .ensures .0)
-    ∙ kind-word-eq _ 1 (k .below) (omega arith)
-    ∙ k .legal-same
+    ∙ ap (λ (n : ℕ). getD (kind-words (getD kinds n absent)) 1 0) (c .before .kind-at .ensures .0)
+    ∙ kinded (a .row) (a .i) (p .1) (p .2) .legal-same
 
 pub legal-at-spec : {M : Type 1} → statement M
 legal-at-spec = tie.close (tie.spec kind-at-requires kind-word-requires returns)

@@ -3,7 +3,6 @@ use native.Mathlib.Omega.{arith}
 use mir.Syntax.{w32}
 use mir.ValLaws.{toZ-ofZ}
 use Rattle.isa.specs.Instructions.{numbers, listing, offset-number}
-use Rattle.isa.proofs.TableLaws.{row-word-eq}
 use borrow.Author.Needs.{needs}
 use Rattle.isa.proofs.writer.numbers_of.Statement.{statement}
 use Rattle.isa.proofs.writer.numbers_of.Tie as tie
@@ -96,8 +95,7 @@ returns c =
     let e =
     c .before .before .before .before .before .before .before .before .before .before .before .before .before .before .before .before .before .before .before .before .before .before .before .before .offset-number .ensures
     ∙ ap offset-number (toZ-ofZ w32 (i .offset) (record { sfits = c .before .before .before .before .before .before .before .before .before .before .before .before .before .before .before .before .before .before .before .before .before .before .before .before .before .before .before .before .before .before .good .1 .0 .1 .1 .1 .1 .1 .1 .1 .1 .1 .0 .1 })) in
-    let o = c .before .before .before .before .before .before .before .before .before .before .before .before .before .before .before .before .before .before .before .before .before .before .before .before .before .before .row-word .ensures ∙ row-word-eq (i .row) 0 (c .before .before .before .before .before .before .before .before .before .before .before .before .before .before .before .before .before .before .before .before .before .before .before .before .before .before .before .before .before .before .pre .1) (omega arith) in
-    λ j. listing i (e j) (c .before .before .before .before .before .before .before .before .before .before .before .before .before .before .before .before .before .before .before .before .before .before .before .before .before .before .before .before .second-at .ensures j) (c .before .before .before .before .before .before .before .before .before .before .before .before .before .before .before .before .before .before .before .before .before .before .before .before .before .before .before .second-at2 .ensures j) (o j)
+    λ j. listing i (e j) (c .before .before .before .before .before .before .before .before .before .before .before .before .before .before .before .before .before .before .before .before .before .before .before .before .before .before .before .before .second-at .ensures j) (c .before .before .before .before .before .before .before .before .before .before .before .before .before .before .before .before .before .before .before .before .before .before .before .before .before .before .before .second-at2 .ensures j) (c .before .before .before .before .before .before .before .before .before .before .before .before .before .before .before .before .before .before .before .before .before .before .before .before .before .before .row-word .ensures j)
 
 pub numbers-of-spec : {M : Type 1} → statement M
 numbers-of-spec =

@@ -5,7 +5,6 @@ use Prim.Native.Nat.{ℕ, zero, suc, _+_, _-_, _*_, _/_, _%_, _^_, _<_, _≤_}
 use native.Mathlib.Omega.{arith}
 use lib.ListN.{length, getD, drop}
 use borrow.Author.Tests.{eq-eqb, ne-eqb}
-use Rattle.isa.proofs.TableLaws.{row-word-eq}
 use borrow.Author.Needs.{needs}
 use Rattle.isa.proofs.writer.second_at.Statement.{statement}
 use Rattle.isa.proofs.writer.second_at.Tie as tie
@@ -17,17 +16,10 @@ row-word-requires-2 : tie.Need-row-word-requires-2
 row-word-requires-2 c κs = search needs
 
 returns : tie.Need-returns
-returns c =
-    let a = c .before .before .before .args in
-    let h = c .before .before .before .pre .1 in
-    rw (eq-eqb _ _ (sym (row-word-eq (a .row) 1 h (omega arith)) ∙ sym (c .before .before .row-word .ensures) ∙ c .before .if1 .taken))
-    (c .row-word2 .ensures ∙ row-word-eq (a .row) 3 h (omega arith))
+returns c = rw (eq-eqb _ _ (sym (c .before .before .row-word .ensures) ∙ c .before .if1 .taken)) (c .row-word2 .ensures)
 
 returns-2 : tie.Need-returns-2
-returns-2 c =
-    let a = c .before .before .args in
-    let h = c .before .before .pre .1 in
-    rw (ne-eqb _ _ (λ e. c .if1 .left (c .before .row-word .ensures ∙ row-word-eq (a .row) 1 h (omega arith) ∙ e)))
+returns-2 c = rw (ne-eqb _ _ (λ e. c .if1 .left (c .before .row-word .ensures ∙ e)))
 
 pub second-at-spec : {M : Type 1} → statement M
 second-at-spec = tie.close (tie.spec row-word-requires row-word-requires-2 returns returns-2)

@@ -11,13 +11,14 @@ use Rattle.isa.specs.Answers.{judging}
 use Rattle.isa.specs.Writer.{is-record, judge-instruction}
 use Rattle.isa.specs.declared.instruction.Instruction.{Instruction}
 use Rattle.isa.specs.declared.answer.Refusal.{Refusal}
+use Rattle.isa.proofs.Demand2Met.{settled-write}
 use Rattle.isa.proofs.WriterLaws.{legal-row, legal-fit, is-true, wrong-buffer, declined, unread, done}
 use borrow.Author.Needs.{needs}
 use Rattle.isa.proofs.writer.write_word.Statement.{statement}
 use Rattle.isa.proofs.writer.write_word.Tie as tie
 
 returns : tie.Need-returns
-returns c = wrong-buffer (c .before .before .args .i) (now (c .before .before .args .buffer)) (c .if1 .taken)
+returns c = settled-write (c .before .before .args .i) (now (c .before .before .args .buffer)) (wrong-buffer (c .before .before .args .i) (now (c .before .before .args .buffer)) (c .if1 .taken))
 
 made-requires : tie.Need-made-requires
 made-requires c κs = search needs
@@ -59,10 +60,12 @@ same-length c = search needs
 returns-2 : tie.Need-returns-2
 returns-2 c =
     let i = c .before .before .before .before .before .before .before .before .before .before .before .before .before .before .before .before .before .before .before .before .args .i in
-    done i (now (c .before .before .before .before .before .before .before .before .before .before .before .before .before .before .before .before .before .before .before .before .args .buffer)) (c .before .before .before .before .before .before .before .before .before .before .before .before .before .before .before .before .before .before .if1 .left) (c .before .before .before .before .before .before .before .before .before .before .before .before .before .before .before .judge-instruction .result) (c .before .before .before .before .before .before .before .before .before .before .before .before .before .before .before .judge-instruction .ensures) (c .before .before .before .before .before .before .before .before .before .before .before .before .before .enum-told .given .1)
+    let b = now (c .before .before .before .before .before .before .before .before .before .before .before .before .before .before .before .before .before .before .before .before .args .buffer) in
+    settled-write i b
+    (done i b (c .before .before .before .before .before .before .before .before .before .before .before .before .before .before .before .before .before .before .if1 .left) (c .before .before .before .before .before .before .before .before .before .before .before .before .before .before .before .judge-instruction .result) (c .before .before .before .before .before .before .before .before .before .before .before .before .before .before .before .judge-instruction .ensures) (c .before .before .before .before .before .before .before .before .before .before .before .before .before .enum-told .given .1)
     (c .before .before .before .before .before .before .before .before .join-numbers .result) (c .before .before .before .before .before .before .before .before .join-numbers .ensures ∙ ap (join (slots (row-of (i .row)))) (c .before .before .before .before .before .before .before .before .before .numbers-of .ensures))
     (c .before .before .before .before .before .is-record .result) (c .before .before .before .before .before .is-record .ensures ∙ ap (λ (o : Outcome Refusal Instruction). is-record o i) (c .before .before .before .before .before .before .read-number .ensures))
-    (c .before .before .before .before .if2 .taken) (c .before .before .store64 .ensures)
+    (c .before .before .before .before .if2 .taken) (c .before .before .store64 .ensures))
 
 enum-known-d : tie.Need-enum-known-d
 enum-known-d c = search needs
@@ -70,15 +73,18 @@ enum-known-d c = search needs
 returns-3 : tie.Need-returns-3
 returns-3 c =
     let i = c .before .before .before .before .before .before .before .before .before .before .before .before .before .before .before .before .args .i in
-    unread i (now (c .before .before .before .before .before .before .before .before .before .before .before .before .before .before .before .before .args .buffer)) (c .before .before .before .before .before .before .before .before .before .before .before .before .before .before .if1 .left) (c .before .before .before .before .before .before .before .before .before .before .before .judge-instruction .result) (c .before .before .before .before .before .before .before .before .before .before .before .judge-instruction .ensures) (c .before .before .before .before .before .before .before .before .before .enum-told .given .1)
+    let b = now (c .before .before .before .before .before .before .before .before .before .before .before .before .before .before .before .before .args .buffer) in
+    settled-write i b
+    (unread i b (c .before .before .before .before .before .before .before .before .before .before .before .before .before .before .if1 .left) (c .before .before .before .before .before .before .before .before .before .before .before .judge-instruction .result) (c .before .before .before .before .before .before .before .before .before .before .before .judge-instruction .ensures) (c .before .before .before .before .before .before .before .before .before .enum-told .given .1)
     (c .before .before .before .before .join-numbers .result) (c .before .before .before .before .join-numbers .ensures ∙ ap (join (slots (row-of (i .row)))) (c .before .before .before .before .before .numbers-of .ensures))
     (c .before .is-record .result) (c .before .is-record .ensures ∙ ap (λ (o : Outcome Refusal Instruction). is-record o i) (c .before .before .read-number .ensures))
-    (c .if2 .left)
+    (c .if2 .left))
 
 returns-4 : tie.Need-returns-4
 returns-4 c =
-    declined (c .before .before .before .before .before .before .before .before .args .i) (now (c .before .before .before .before .before .before .before .before .args .buffer)) (c .before .before .before .before .before .before .if1 .left) (c .before .before .before .judge-instruction .result) (c .before .before .before .judge-instruction .ensures)
-    (c .before .d .given .1)
+    let i = c .before .before .before .before .before .before .before .before .args .i in
+    let b = now (c .before .before .before .before .before .before .before .before .args .buffer) in
+    settled-write i b (declined i b (c .before .before .before .before .before .before .if1 .left) (c .before .before .before .judge-instruction .result) (c .before .before .before .judge-instruction .ensures) (c .before .d .given .1))
 
 pub write-word-spec : {M : Type 1} → statement M
 write-word-spec =
