@@ -1,0 +1,214 @@
+"""Paper 01 in plain Python, written from the paper and source document 002 alone.
+
+It is the second opinion from which the expected outputs of the tests are made; it shares no table with the Rattle code."""
+
+# ---- the rows, as the paper lists them
+
+
+
+
+ALL = {n: set(range(1 << n)) for n in range(1, 5)}
+
+
+def N(k):
+    return [(38 - 2 * k, 1, ALL[1], 0), (39 - 2 * k, 1, ALL[1], 0)]
+
+
+def F(k):
+    return [(28 - 2 * k, 2, {0, 1, 2}, 0)]
+
+
+def H(k):
+    return [(28 - 2 * k, 2, ALL[2], 2)]
+
+
+def wide(k, legal, fresh):
+    return [(36 if k == 0 else 26, 4, legal, fresh)]
+
+
+def W32(k):
+    return wide(k, {0, 2, 3, 4, 5, 6, 7}, 0)
+
+
+def W16(k):
+    return wide(k, set(range(14)), 2)
+
+
+def W8(k):
+    return wide(k, set(range(12)), 0)
+
+
+R = [(30, 2, ALL[2], 0)]
+T = [(30, 2, ALL[2], 0)]
+C = [(32, 3, ALL[3], 0)]
+I = [(32, 3, set(range(6)), 0)]
+X = [(32, 2, ALL[2], 1)]
+LANE1 = [(28, 1, ALL[1], 0)]
+LANE2 = [(28, 2, ALL[2], 0)]
+HALF = [(36, 4, ALL[4], 0)]
+CLAMP = [(32, 2, ALL[2], 0)]
+SATURATE = [(30, 1, ALL[1], 0)]
+FLUSH = [(8, 2, {0, 1, 2}, 0), (10, 1, ALL[1], 0), (11, 1, ALL[1], 0)]
+BRANCH = [(37, 3, set(range(5)), 0), (36, 1, ALL[1], 0), (35, 1, ALL[1], 0)]
+
+ROWS = []
+
+
+def add(name, opcode, second, sources, fields, destination=True, offset=False):
+    if second is None:
+        place = None
+    else:
+        low = 16 if sources <= 2 else 24
+        width = 5 if opcode == 0x90 else 2 if opcode in (0xF0, 0xF1, 0xF2, 0xF4, 0xF5, 0xF8, 0xF9, 0xFA) else 4
+        place = (low, width, second)
+    ROWS.append(dict(name=name, opcode=opcode, second=place, sources=sources, fields=sorted(fields), destination=destination, offset=offset))
+
+
+add('NOP', 0x00, None, 0, [], destination=False)
+add('BRANCHZ', 0x1F, None, 1, BRANCH, destination=False, offset=True)
+add('DISCARD.f32', 0x20, None, 2, N(0) + N(1) + F(0) + F(1) + C, destination=False)
+for name, opcode in (('CSEL.f32', 0x154), ('CSEL.v2f16', 0x155)):
+    add(name, opcode, None, 4, C)
+for names, fields in (
+    ('V2S16_TO_V2F16/7 V2U16_TO_V2F16/17', R + W16(0)),
+    ('S32_TO_F32/9 U32_TO_F32/19', R + W32(0)),
+    ('S16_TO_S32/4 S16_TO_F32/5 U16_TO_U32/14 U16_TO_F32/15', H(0)),
+    ('F32_TO_S32/C F32_TO_U32/1C', R + N(0)),
+    ('V2F16_TO_V2S16/E V2F16_TO_V2U16/1E F16_TO_S32/A F16_TO_U32/1A', R + N(0) + H(0)),
+    ('F16_TO_F32/B', R + N(0) + LANE1),
+    ('S8_TO_S32/0 S8_TO_F32/1 U8_TO_U32/10 U8_TO_F32/11', LANE2),
+    ('V2S8_TO_V2S16/2 V2S8_TO_V2F16/3 V2U8_TO_V2U16/12 V2U8_TO_V2F16/13', HALF),
+    ('FROUND.f32/D', R + N(0) + F(0)),
+    ('FROUND.v2f16/F', R + N(0) + H(0)),
+):
+    for entry in names.split():
+        name, second = entry.split('/')
+        add(name, 0x90, int(second, 16), 1, fields)
+for name, second, fields in (
+    ('MOV.i32', 0, []), ('CLZ.u32', 4, []), ('CLZ.v2u16', 5, H(0)), ('CLZ.v4u8', 6, []), ('IABS.s32', 8, W32(0)), ('IABS.v2s16', 9, W16(0)),
+    ('IABS.v4s8', 0xA, []), ('POPCOUNT.i32', 0xC, []), ('BITREV.i32', 0xD, []), ('NOT_OLD.i32', 0xE, []),
+):
+    add(name, 0x91, second, 1, fields)
+add('FLUSH.f32', 0x98, 0, 1, N(0) + F(0) + FLUSH)
+add('FLUSH.v2f16', 0x98, 1, 1, N(0) + H(0) + FLUSH)
+for name, second in (('FRCP.f32', 0), ('FRSQ.f32', 2), ('FLOGD.f32', 8), ('FPCLASS.f32', 10), ('FLOG_TABLE.f32', 12), ('FRCP_APPROX.f32', 14),
+                     ('FRSQ_APPROX.f32', 15)):
+    add(name, 0x9C, second, 1, N(0) + F(0))
+for name, second in (('FSIN_TABLE.u6', 4), ('FCOS_TABLE.u6', 5), ('FSINCOS_OFFSET.u6', 6), ('FEXP_TABLE.u4', 13)):
+    add(name, 0x9C, second, 1, [])
+add('FADD.f32', 0xA4, 0, 2, N(0) + N(1) + CLAMP + F(0) + F(1))
+add('FADD.v2f16', 0xA5, 0, 2, N(0) + N(1) + CLAMP + H(0) + H(1))
+add('MUX.i32', 0xB8, None, 3, X)
+add('MUX.v2i16', 0xB9, None, 3, X + H(0) + H(1) + H(2))
+add('MUX.v4i8', 0xBA, None, 3, X)
+add('CUBE_SSEL', 0xBC, 0, 3, N(0) + N(1))
+add('CUBE_TSEL', 0xBC, 1, 3, N(0) + N(1))
+add('CUBEFACE1', 0xC0, None, 3, N(0) + N(1) + N(2))
+add('CUBEFACE2_V9', 0xC1, None, 3, N(0) + N(1) + N(2))
+add('IDP.v4s8', 0xC2, 0, 3, SATURATE)
+add('IDP.v4u8', 0xC2, 1, 3, SATURATE)
+for second, name in ((0, 'ICMP_OR'), (1, 'ICMP_AND')):
+    for ending, opcode, w in (('.u32', 0xF0, W32), ('.v2u16', 0xF1, W16), ('.v4u8', 0xF2, W8)):
+        add(name + ending, opcode, second, 3, I + T + w(0) + w(1))
+for second, name in ((0, 'FCMP_OR'), (1, 'FCMP_AND')):
+    for ending, opcode, w in (('.f32', 0xF4, F), ('.v2f16', 0xF5, H)):
+        add(name + ending, opcode, second, 3, C + T + N(0) + N(1) + w(0) + w(1))
+for ending, opcode, w in (('.s32', 0xF8, W32), ('.v2s16', 0xF9, W16), ('.v4s8', 0xFA, W8)):
+    add('ICMP_OR' + ending, opcode, 0, 3, I + T + w(0) + w(1))
+assert len(ROWS) == 77
+
+# ---- words
+
+
+def bits(w, low, width):
+    return w >> low & (1 << width) - 1
+
+
+SPECIALS = {
+    0: {2, 4, 5, 6, 8, 9, 10, 11, 12, 13, 14, 15},
+    1: {1, 3, 7},
+    2: set(),
+    3: {1, 3, 15},
+}
+
+
+def source_legal(page, byte):
+    entry = byte - 192
+    return entry < 32 or entry - 32 in SPECIALS[page]
+
+
+def fits(row, w):
+    if bits(w, 48, 9) != row['opcode']:
+        return False
+    if row['second'] is None:
+        return True
+    low, width, value = row['second']
+    return bits(w, low, width) == value
+
+
+def assigned(row):
+    mask = 0
+
+    def own(low, width):
+        nonlocal mask
+        mask |= (1 << width) - 1 << low
+    for k in range(row['sources']):
+        own(8 * k, 8)
+    for low, width, _, _ in row['fields']:
+        own(low, width)
+    if row['second'] is not None:
+        own(row['second'][0], row['second'][1])
+    if row['offset']:
+        own(8, 27)
+    if row['destination']:
+        own(40, 8)
+    own(48, 9)
+    own(57, 2)
+    own(59, 4)
+    return mask
+
+
+def read(data):
+    """('read', row number) or ('refused', number, place), for bytes."""
+    if len(data) != 8:
+        return 'refused', 1, 0
+    w = int.from_bytes(data, 'little')
+    rows = [k for k, row in enumerate(ROWS) if fits(row, w)]
+    if not rows:
+        return 'refused', 2, 0
+    [k] = rows
+    row = ROWS[k]
+    if w & ~assigned(row):
+        return 'refused', 3, 0
+    if bits(w, 59, 4) in (11, 12, 14):
+        return 'refused', 4, 0
+    if row['destination'] and bits(w, 46, 2) == 0:
+        return 'refused', 5, 0
+    for low, width, legal, _ in row['fields']:
+        if bits(w, low, width) not in legal:
+            return 'refused', 6, low
+    for k2 in range(row['sources']):
+        if not source_legal(bits(w, 57, 2), bits(w, 8 * k2, 8)):
+            return 'refused', 7, k2
+    return 'read', k
+
+
+def word(row, page=0, flow=0, register=0, mask=3, sources=(0, 0, 0, 0), fields=None, offset=0):
+    """The word of a record that is legal."""
+    r = ROWS[row]
+    w = r['opcode'] << 48 | page << 57 | flow << 59
+    if r['second'] is not None:
+        w |= r['second'][2] << r['second'][0]
+    if r['destination']:
+        w |= register << 40 | mask << 46
+    for k in range(r['sources']):
+        w |= sources[k] << 8 * k
+    for low, width, _, fresh in r['fields']:
+        w |= (fields or {}).get(low, fresh) << low
+    if r['offset']:
+        w |= (offset & (1 << 27) - 1) << 8
+    return w
+
+
+def row_number(name):
+    return [r['name'] for r in ROWS].index(name)
