@@ -212,3 +212,90 @@ def word(row, page=0, flow=0, register=0, mask=3, sources=(0, 0, 0, 0), fields=N
 
 def row_number(name):
     return [r['name'] for r in ROWS].index(name)
+
+# ---- parcels
+
+
+def source_count(k):
+    return ROWS[k]['sources']
+
+
+def effect(w):
+    """Registers read, released and fully written, successors' rule, of a word that reads: reads, releases, writes, ends, branch offset."""
+    _, k = read(w.to_bytes(8, 'little'))
+    row = ROWS[k]
+    reads, releases, writes = set(), set(), set()
+    for j in range(row['sources']):
+        b = bits(w, 8 * j, 8)
+        if b < 128:
+            reads.add(b % 64)
+        if 64 <= b < 128:
+            releases.add(b - 64)
+    if row['destination'] and bits(w, 46, 2) == 3:
+        writes.add(bits(w, 40, 6))
+    offset = None
+    if row['offset']:
+        offset = bits(w, 8, 27)
+        offset -= (offset >> 26) << 27
+    return reads, releases, writes, bits(w, 59, 4) == 15, offset
+
+
+def members(s):
+    return {r for r in range(64) if s >> r & 1}
+
+
+def opening(data):
+    """The number of the refusal, or None."""
+    if len(data) < 16:
+        return 12
+    if data[:3] != b'VSP':
+        return 10
+    if int.from_bytes(data[3:5], 'little') != 1:
+        return 11
+    if data[5] != 0:
+        return 13
+    n = int.from_bytes(data[6:8], 'little')
+    if not 1 <= n <= 2048 or len(data) != 16 + 16 * n:
+        return 12
+    return None
+
+
+def check(data):
+    """None where accepted, else number, place, index, register."""
+    number = opening(data)
+    if number is not None:
+        return number, 0, 0, 64
+    n = int.from_bytes(data[6:8], 'little')
+    entry = members(int.from_bytes(data[8:16], 'little'))
+    words = [int.from_bytes(data[16 + 8 * i:24 + 8 * i], 'little') for i in range(n)]
+    notes = [members(int.from_bytes(data[16 + 8 * n + 8 * i:24 + 8 * n + 8 * i], 'little')) for i in range(n)]
+    for i, w in enumerate(words):
+        result = read(w.to_bytes(8, 'little'))
+        if result[0] == 'refused':
+            return result[1], result[2], i, 64
+    if notes[0] - entry:
+        return 23, 0, 0, min(notes[0] - entry)
+    for i, w in enumerate(words):
+        reads, releases, writes, ends, offset = effect(w)
+        if reads - notes[i]:
+            return 20, 0, i, min(reads - notes[i])
+        if ends:
+            continue
+        held = notes[i] - releases | writes
+        for j in [i + 1] + ([] if offset is None else [i + 1 + offset]):
+            if not 0 <= j < n:
+                return 21, 0, i, 64
+            if notes[j] - held:
+                return 22, 0, i, min(notes[j] - held)
+    return None
+
+
+def members_of(registers):
+    return sum(1 << r for r in registers)
+
+
+def parcel(words, notes, entry, mark=b'VSP', version=1, zero=0, n=None):
+    """A parcel of words (numbers) and notes (lists of registers), as it is asked for, right or wrong."""
+    n = len(words) if n is None else n
+    head = mark + version.to_bytes(2, 'little') + bytes([zero]) + n.to_bytes(2, 'little') + members_of(entry).to_bytes(8, 'little')
+    return head + b''.join(w.to_bytes(8, 'little') for w in words) + b''.join(members_of(s).to_bytes(8, 'little') for s in notes)

@@ -185,7 +185,7 @@ has-minus-test a b r = ⊎-elim
 
 -- the lowest member of a set of 64 bits
 
-member-below : (s r : ℕ) → s < 2 ^ 64 → Has s r → r < 64
+pub member-below : (s r : ℕ) → s < 2 ^ 64 → Has s r → r < 64
 unfolding Has
 member-below s r h k = go (ltb r 64) refl
   where

@@ -123,55 +123,52 @@ const K_PAGE: u64 = 22;
 
 const K_FLOW: u64 = 23;
 
-// What stands in fields 0 to 9, six bits each: one to four sources, a secondary opcode, the offset, FLUSH's modifiers.
+// What stands in fields 0 to 9, six bits each: one to four sources, with a secondary opcode of so many bits; BRANCHZ's offset; FLUSH's
+// modifiers.
 const ONE: u64 = K_SOURCE << 6 * S0;
 
 const TWO: u64 = ONE | K_SOURCE << 6 * S1;
 
-const THREE: u64 = TWO | K_SOURCE << 6 * S2;
+const TRI: u64 = TWO | K_SOURCE << 6 * S2;
 
-const FOUR: u64 = THREE | K_SOURCE << 6 * S3;
+const FOUR: u64 = TRI | K_SOURCE << 6 * S3;
 
-const LOW_5: u64 = K_SECOND_5 << 6 * SECOND_16;
+const ONE_5: u64 = ONE | K_SECOND_5 << 6 * SECOND_16;
 
-const LOW_4: u64 = K_SECOND_4 << 6 * SECOND_16;
+const ONE_4: u64 = ONE | K_SECOND_4 << 6 * SECOND_16;
 
-const HIGH_4: u64 = K_SECOND_4 << 6 * SECOND_24;
+const TWO_4: u64 = TWO | K_SECOND_4 << 6 * SECOND_16;
 
-const HIGH_2: u64 = K_SECOND_2 << 6 * SECOND_24;
+const TRI_4: u64 = TRI | K_SECOND_4 << 6 * SECOND_24;
 
-const JUMP: u64 = K_OFFSET << 6 * OFFSET;
+const TRI_2: u64 = TRI | K_SECOND_2 << 6 * SECOND_24;
 
-const FLUSH: u64 = K_NAN_MODE << 6 * M8 | K_FLAG << 6 * M10 | K_FLAG << 6 * M11;
+const JUMP: u64 = ONE | K_OFFSET << 6 * OFFSET;
 
-// In fields 10 to 19: modifiers, by the paper's letters and the source that they are for.
-const N0: u64 = K_FLAG << 6 * (M38 - 10);
+const FLUSH: u64 = ONE_4 | K_NAN_MODE << 6 * M8 | K_FLAG << 6 * M10 | K_FLAG << 6 * M11;
+
+// In fields 10 to 19: the paper's letters, of one source unless a number says which; N is without source 0's absolute.
+const N: u64 = K_FLAG << 6 * (M38 - 10);
 
 const N1: u64 = K_FLAG << 6 * (M36 - 10) | K_FLAG << 6 * (M37 - 10);
 
 const N2: u64 = K_FLAG << 6 * (M34 - 10) | K_FLAG << 6 * (M35 - 10);
 
-const F0: u64 = K_WIDEN << 6 * (M28 - 10);
+const F: u64 = K_WIDEN << 6 * (M28 - 10);
 
 const F1: u64 = K_WIDEN << 6 * (M26 - 10);
 
-const H0: u64 = K_SWIZZLE_HALF << 6 * (M28 - 10);
+const H: u64 = K_SWIZZLE_HALF << 6 * (M28 - 10);
 
 const H1: u64 = K_SWIZZLE_HALF << 6 * (M26 - 10);
 
 const H2: u64 = K_SWIZZLE_HALF << 6 * (M24 - 10);
 
-const W32_0: u64 = K_SWIZZLE_32 << 6 * (M36 - 10);
+const W32: u64 = K_SWIZZLE_32 << 6 * (M36 - 10);
 
-const W32_1: u64 = K_SWIZZLE_32 << 6 * (M26 - 10);
+const W16: u64 = K_SWIZZLE_16 << 6 * (M36 - 10);
 
-const W16_0: u64 = K_SWIZZLE_16 << 6 * (M36 - 10);
-
-const W16_1: u64 = K_SWIZZLE_16 << 6 * (M26 - 10);
-
-const W8_0: u64 = K_SWIZZLE_8 << 6 * (M36 - 10);
-
-const W8_1: u64 = K_SWIZZLE_8 << 6 * (M26 - 10);
+const W8: u64 = K_SWIZZLE_8 << 6 * (M36 - 10);
 
 const R: u64 = K_TWO_BITS << 6 * (M30 - 10);
 
@@ -185,655 +182,147 @@ const X: u64 = K_MUX << 6 * (M32 - 10);
 
 const CLAMP: u64 = K_TWO_BITS << 6 * (M32 - 10);
 
-const LANE_BIT: u64 = K_FLAG << 6 * (M28 - 10);
+const BIT: u64 = K_FLAG << 6 * (M28 - 10);
 
 const LANE: u64 = K_TWO_BITS << 6 * (M28 - 10);
 
 const HALVES: u64 = K_HALF_SWIZZLE << 6 * (M36 - 10);
 
-const SATURATE: u64 = K_FLAG << 6 * (M30 - 10);
+const SAT: u64 = K_FLAG << 6 * (M30 - 10);
 
+// The same in the groups in which rows have them.
 const BRANCH: u64 = K_FLAG << 6 * (M35 - 10)
     | K_FLAG << 6 * (M36 - 10)
     | K_COMBINE << 6 * (M37 - 10);
 
-// In fields 20 to 25: what every word has, the destination, and source 0's absolute.
-const FRAME: u64 = K_OPCODE << 6 * (OPCODE - 20)
+const RW16: u64 = R | W16;
+
+const RW32: u64 = R | W32;
+
+const RN: u64 = R | N;
+
+const RNH: u64 = R | N | H;
+
+const RNF: u64 = R | N | F;
+
+const RNB: u64 = R | N | BIT;
+
+const NF: u64 = N | F;
+
+const NH: u64 = N | H;
+
+const NN: u64 = N | N1;
+
+const NNN: u64 = N | N1 | N2;
+
+const XH: u64 = X | H | H1 | H2;
+
+const DISCARD: u64 = NN | F | F1 | C;
+
+const ADD_F: u64 = NN | CLAMP | F | F1;
+
+const ADD_H: u64 = NN | CLAMP | H | H1;
+
+const CMP_F: u64 = C | T | NN | F | F1;
+
+const CMP_H: u64 = C | T | NN | H | H1;
+
+const CMP32: u64 = I | T | W32 | K_SWIZZLE_32 << 6 * (M26 - 10);
+
+const CMP16: u64 = I | T | W16 | K_SWIZZLE_16 << 6 * (M26 - 10);
+
+const CMP8: u64 = I | T | W8 | K_SWIZZLE_8 << 6 * (M26 - 10);
+
+// In fields 20 to 25: what every word has, the destination, and the absolute of source 0.
+const BARE: u64 = K_OPCODE << 6 * (OPCODE - 20)
     | K_PAGE << 6 * (PAGE - 20)
     | K_FLOW << 6 * (FLOW - 20);
 
-const DEST: u64 = FRAME | K_REGISTER << 6 * (REGISTER - 20) | K_HALF_MASK << 6 * (HALF_MASK - 20);
+const DEST: u64 = BARE | K_REGISTER << 6 * (REGISTER - 20) | K_HALF_MASK << 6 * (HALF_MASK - 20);
 
-const A0: u64 = K_FLAG << 6 * (M39 - 20);
+const BARE_A: u64 = BARE | K_FLAG << 6 * (M39 - 20);
+
+const DEST_A: u64 = DEST | K_FLAG << 6 * (M39 - 20);
 
 const TABLE: Table = [
     // opcode; the secondary opcode's lowest bit, width and value; assigned bits; what stands in the fields
-    [0x000, 0, 0, 0x00, 0x7FFF000000000000, 0, 0, FRAME], // NOP
-    [
-        0x01F,
-        0,
-        0,
-        0x00,
-        0x7FFF00FFFFFFFFFF,
-        ONE | JUMP,
-        BRANCH,
-        FRAME,
-    ], // BRANCHZ
-    [
-        0x020,
-        0,
-        0,
-        0x00,
-        0x7FFF00F73C00FFFF,
-        TWO,
-        N0 | F0 | N1 | F1 | C,
-        FRAME | A0,
-    ], // DISCARD.f32
-    [0x154, 0, 0, 0x00, 0x7FFFFF07FFFFFFFF, FOUR, C, DEST], // CSEL.f32
-    [0x155, 0, 0, 0x00, 0x7FFFFF07FFFFFFFF, FOUR, C, DEST], // CSEL.v2f16
-    [
-        0x090,
-        16,
-        5,
-        0x07,
-        0x7FFFFFF0C01F00FF,
-        ONE | LOW_5,
-        R | W16_0,
-        DEST,
-    ], // V2S16_TO_V2F16
-    [
-        0x090,
-        16,
-        5,
-        0x17,
-        0x7FFFFFF0C01F00FF,
-        ONE | LOW_5,
-        R | W16_0,
-        DEST,
-    ], // V2U16_TO_V2F16
-    [
-        0x090,
-        16,
-        5,
-        0x09,
-        0x7FFFFFF0C01F00FF,
-        ONE | LOW_5,
-        R | W32_0,
-        DEST,
-    ], // S32_TO_F32
-    [
-        0x090,
-        16,
-        5,
-        0x19,
-        0x7FFFFFF0C01F00FF,
-        ONE | LOW_5,
-        R | W32_0,
-        DEST,
-    ], // U32_TO_F32
-    [
-        0x090,
-        16,
-        5,
-        0x04,
-        0x7FFFFF00301F00FF,
-        ONE | LOW_5,
-        H0,
-        DEST,
-    ], // S16_TO_S32
-    [
-        0x090,
-        16,
-        5,
-        0x05,
-        0x7FFFFF00301F00FF,
-        ONE | LOW_5,
-        H0,
-        DEST,
-    ], // S16_TO_F32
-    [
-        0x090,
-        16,
-        5,
-        0x14,
-        0x7FFFFF00301F00FF,
-        ONE | LOW_5,
-        H0,
-        DEST,
-    ], // U16_TO_U32
-    [
-        0x090,
-        16,
-        5,
-        0x15,
-        0x7FFFFF00301F00FF,
-        ONE | LOW_5,
-        H0,
-        DEST,
-    ], // U16_TO_F32
-    [
-        0x090,
-        16,
-        5,
-        0x0C,
-        0x7FFFFFC0C01F00FF,
-        ONE | LOW_5,
-        R | N0,
-        DEST | A0,
-    ], // F32_TO_S32
-    [
-        0x090,
-        16,
-        5,
-        0x1C,
-        0x7FFFFFC0C01F00FF,
-        ONE | LOW_5,
-        R | N0,
-        DEST | A0,
-    ], // F32_TO_U32
-    [
-        0x090,
-        16,
-        5,
-        0x0E,
-        0x7FFFFFC0F01F00FF,
-        ONE | LOW_5,
-        R | N0 | H0,
-        DEST | A0,
-    ], // V2F16_TO_V2S16
-    [
-        0x090,
-        16,
-        5,
-        0x1E,
-        0x7FFFFFC0F01F00FF,
-        ONE | LOW_5,
-        R | N0 | H0,
-        DEST | A0,
-    ], // V2F16_TO_V2U16
-    [
-        0x090,
-        16,
-        5,
-        0x0A,
-        0x7FFFFFC0F01F00FF,
-        ONE | LOW_5,
-        R | N0 | H0,
-        DEST | A0,
-    ], // F16_TO_S32
-    [
-        0x090,
-        16,
-        5,
-        0x1A,
-        0x7FFFFFC0F01F00FF,
-        ONE | LOW_5,
-        R | N0 | H0,
-        DEST | A0,
-    ], // F16_TO_U32
-    [
-        0x090,
-        16,
-        5,
-        0x0B,
-        0x7FFFFFC0D01F00FF,
-        ONE | LOW_5,
-        R | N0 | LANE_BIT,
-        DEST | A0,
-    ], // F16_TO_F32
-    [
-        0x090,
-        16,
-        5,
-        0x00,
-        0x7FFFFF00301F00FF,
-        ONE | LOW_5,
-        LANE,
-        DEST,
-    ], // S8_TO_S32
-    [
-        0x090,
-        16,
-        5,
-        0x01,
-        0x7FFFFF00301F00FF,
-        ONE | LOW_5,
-        LANE,
-        DEST,
-    ], // S8_TO_F32
-    [
-        0x090,
-        16,
-        5,
-        0x10,
-        0x7FFFFF00301F00FF,
-        ONE | LOW_5,
-        LANE,
-        DEST,
-    ], // U8_TO_U32
-    [
-        0x090,
-        16,
-        5,
-        0x11,
-        0x7FFFFF00301F00FF,
-        ONE | LOW_5,
-        LANE,
-        DEST,
-    ], // U8_TO_F32
-    [
-        0x090,
-        16,
-        5,
-        0x02,
-        0x7FFFFFF0001F00FF,
-        ONE | LOW_5,
-        HALVES,
-        DEST,
-    ], // V2S8_TO_V2S16
-    [
-        0x090,
-        16,
-        5,
-        0x03,
-        0x7FFFFFF0001F00FF,
-        ONE | LOW_5,
-        HALVES,
-        DEST,
-    ], // V2S8_TO_V2F16
-    [
-        0x090,
-        16,
-        5,
-        0x12,
-        0x7FFFFFF0001F00FF,
-        ONE | LOW_5,
-        HALVES,
-        DEST,
-    ], // V2U8_TO_V2U16
-    [
-        0x090,
-        16,
-        5,
-        0x13,
-        0x7FFFFFF0001F00FF,
-        ONE | LOW_5,
-        HALVES,
-        DEST,
-    ], // V2U8_TO_V2F16
-    [
-        0x090,
-        16,
-        5,
-        0x0D,
-        0x7FFFFFC0F01F00FF,
-        ONE | LOW_5,
-        R | N0 | F0,
-        DEST | A0,
-    ], // FROUND.f32
-    [
-        0x090,
-        16,
-        5,
-        0x0F,
-        0x7FFFFFC0F01F00FF,
-        ONE | LOW_5,
-        R | N0 | H0,
-        DEST | A0,
-    ], // FROUND.v2f16
-    [0x091, 16, 4, 0x00, 0x7FFFFF00000F00FF, ONE | LOW_4, 0, DEST], // MOV.i32
-    [0x091, 16, 4, 0x04, 0x7FFFFF00000F00FF, ONE | LOW_4, 0, DEST], // CLZ.u32
-    [
-        0x091,
-        16,
-        4,
-        0x05,
-        0x7FFFFF00300F00FF,
-        ONE | LOW_4,
-        H0,
-        DEST,
-    ], // CLZ.v2u16
-    [0x091, 16, 4, 0x06, 0x7FFFFF00000F00FF, ONE | LOW_4, 0, DEST], // CLZ.v4u8
-    [
-        0x091,
-        16,
-        4,
-        0x08,
-        0x7FFFFFF0000F00FF,
-        ONE | LOW_4,
-        W32_0,
-        DEST,
-    ], // IABS.s32
-    [
-        0x091,
-        16,
-        4,
-        0x09,
-        0x7FFFFFF0000F00FF,
-        ONE | LOW_4,
-        W16_0,
-        DEST,
-    ], // IABS.v2s16
-    [0x091, 16, 4, 0x0A, 0x7FFFFF00000F00FF, ONE | LOW_4, 0, DEST], // IABS.v4s8
-    [0x091, 16, 4, 0x0C, 0x7FFFFF00000F00FF, ONE | LOW_4, 0, DEST], // POPCOUNT.i32
-    [0x091, 16, 4, 0x0D, 0x7FFFFF00000F00FF, ONE | LOW_4, 0, DEST], // BITREV.i32
-    [0x091, 16, 4, 0x0E, 0x7FFFFF00000F00FF, ONE | LOW_4, 0, DEST], // NOT_OLD.i32
-    [
-        0x098,
-        16,
-        4,
-        0x00,
-        0x7FFFFFC0300F0FFF,
-        ONE | LOW_4 | FLUSH,
-        N0 | F0,
-        DEST | A0,
-    ], // FLUSH.f32
-    [
-        0x098,
-        16,
-        4,
-        0x01,
-        0x7FFFFFC0300F0FFF,
-        ONE | LOW_4 | FLUSH,
-        N0 | H0,
-        DEST | A0,
-    ], // FLUSH.v2f16
-    [
-        0x09C,
-        16,
-        4,
-        0x00,
-        0x7FFFFFC0300F00FF,
-        ONE | LOW_4,
-        N0 | F0,
-        DEST | A0,
-    ], // FRCP.f32
-    [
-        0x09C,
-        16,
-        4,
-        0x02,
-        0x7FFFFFC0300F00FF,
-        ONE | LOW_4,
-        N0 | F0,
-        DEST | A0,
-    ], // FRSQ.f32
-    [
-        0x09C,
-        16,
-        4,
-        0x08,
-        0x7FFFFFC0300F00FF,
-        ONE | LOW_4,
-        N0 | F0,
-        DEST | A0,
-    ], // FLOGD.f32
-    [
-        0x09C,
-        16,
-        4,
-        0x0A,
-        0x7FFFFFC0300F00FF,
-        ONE | LOW_4,
-        N0 | F0,
-        DEST | A0,
-    ], // FPCLASS.f32
-    [
-        0x09C,
-        16,
-        4,
-        0x0C,
-        0x7FFFFFC0300F00FF,
-        ONE | LOW_4,
-        N0 | F0,
-        DEST | A0,
-    ], // FLOG_TABLE.f32
-    [
-        0x09C,
-        16,
-        4,
-        0x0E,
-        0x7FFFFFC0300F00FF,
-        ONE | LOW_4,
-        N0 | F0,
-        DEST | A0,
-    ], // FRCP_APPROX.f32
-    [
-        0x09C,
-        16,
-        4,
-        0x0F,
-        0x7FFFFFC0300F00FF,
-        ONE | LOW_4,
-        N0 | F0,
-        DEST | A0,
-    ], // FRSQ_APPROX.f32
-    [0x09C, 16, 4, 0x04, 0x7FFFFF00000F00FF, ONE | LOW_4, 0, DEST], // FSIN_TABLE.u6
-    [0x09C, 16, 4, 0x05, 0x7FFFFF00000F00FF, ONE | LOW_4, 0, DEST], // FCOS_TABLE.u6
-    [0x09C, 16, 4, 0x06, 0x7FFFFF00000F00FF, ONE | LOW_4, 0, DEST], // FSINCOS_OFFSET.u6
-    [0x09C, 16, 4, 0x0D, 0x7FFFFF00000F00FF, ONE | LOW_4, 0, DEST], // FEXP_TABLE.u4
-    [
-        0x0A4,
-        16,
-        4,
-        0x00,
-        0x7FFFFFF33C0FFFFF,
-        TWO | LOW_4,
-        N0 | N1 | CLAMP | F0 | F1,
-        DEST | A0,
-    ], // FADD.f32
-    [
-        0x0A5,
-        16,
-        4,
-        0x00,
-        0x7FFFFFF33C0FFFFF,
-        TWO | LOW_4,
-        N0 | N1 | CLAMP | H0 | H1,
-        DEST | A0,
-    ], // FADD.v2f16
-    [0x0B8, 0, 0, 0x00, 0x7FFFFF0300FFFFFF, THREE, X, DEST], // MUX.i32
-    [
-        0x0B9,
-        0,
-        0,
-        0x00,
-        0x7FFFFF033FFFFFFF,
-        THREE,
-        X | H0 | H1 | H2,
-        DEST,
-    ], // MUX.v2i16
-    [0x0BA, 0, 0, 0x00, 0x7FFFFF0300FFFFFF, THREE, X, DEST], // MUX.v4i8
-    [
-        0x0BC,
-        24,
-        4,
-        0x00,
-        0x7FFFFFF00FFFFFFF,
-        THREE | HIGH_4,
-        N0 | N1,
-        DEST | A0,
-    ], // CUBE_SSEL
-    [
-        0x0BC,
-        24,
-        4,
-        0x01,
-        0x7FFFFFF00FFFFFFF,
-        THREE | HIGH_4,
-        N0 | N1,
-        DEST | A0,
-    ], // CUBE_TSEL
-    [
-        0x0C0,
-        0,
-        0,
-        0x00,
-        0x7FFFFFFC00FFFFFF,
-        THREE,
-        N0 | N1 | N2,
-        DEST | A0,
-    ], // CUBEFACE1
-    [
-        0x0C1,
-        0,
-        0,
-        0x00,
-        0x7FFFFFFC00FFFFFF,
-        THREE,
-        N0 | N1 | N2,
-        DEST | A0,
-    ], // CUBEFACE2_V9
-    [
-        0x0C2,
-        24,
-        4,
-        0x00,
-        0x7FFFFF004FFFFFFF,
-        THREE | HIGH_4,
-        SATURATE,
-        DEST,
-    ], // IDP.v4s8
-    [
-        0x0C2,
-        24,
-        4,
-        0x01,
-        0x7FFFFF004FFFFFFF,
-        THREE | HIGH_4,
-        SATURATE,
-        DEST,
-    ], // IDP.v4u8
-    [
-        0x0F0,
-        24,
-        2,
-        0x00,
-        0x7FFFFFF7FFFFFFFF,
-        THREE | HIGH_2,
-        I | T | W32_0 | W32_1,
-        DEST,
-    ], // ICMP_OR.u32
-    [
-        0x0F1,
-        24,
-        2,
-        0x00,
-        0x7FFFFFF7FFFFFFFF,
-        THREE | HIGH_2,
-        I | T | W16_0 | W16_1,
-        DEST,
-    ], // ICMP_OR.v2u16
-    [
-        0x0F2,
-        24,
-        2,
-        0x00,
-        0x7FFFFFF7FFFFFFFF,
-        THREE | HIGH_2,
-        I | T | W8_0 | W8_1,
-        DEST,
-    ], // ICMP_OR.v4u8
-    [
-        0x0F0,
-        24,
-        2,
-        0x01,
-        0x7FFFFFF7FFFFFFFF,
-        THREE | HIGH_2,
-        I | T | W32_0 | W32_1,
-        DEST,
-    ], // ICMP_AND.u32
-    [
-        0x0F1,
-        24,
-        2,
-        0x01,
-        0x7FFFFFF7FFFFFFFF,
-        THREE | HIGH_2,
-        I | T | W16_0 | W16_1,
-        DEST,
-    ], // ICMP_AND.v2u16
-    [
-        0x0F2,
-        24,
-        2,
-        0x01,
-        0x7FFFFFF7FFFFFFFF,
-        THREE | HIGH_2,
-        I | T | W8_0 | W8_1,
-        DEST,
-    ], // ICMP_AND.v4u8
-    [
-        0x0F4,
-        24,
-        2,
-        0x00,
-        0x7FFFFFF7FFFFFFFF,
-        THREE | HIGH_2,
-        C | T | N0 | N1 | F0 | F1,
-        DEST | A0,
-    ], // FCMP_OR.f32
-    [
-        0x0F5,
-        24,
-        2,
-        0x00,
-        0x7FFFFFF7FFFFFFFF,
-        THREE | HIGH_2,
-        C | T | N0 | N1 | H0 | H1,
-        DEST | A0,
-    ], // FCMP_OR.v2f16
-    [
-        0x0F4,
-        24,
-        2,
-        0x01,
-        0x7FFFFFF7FFFFFFFF,
-        THREE | HIGH_2,
-        C | T | N0 | N1 | F0 | F1,
-        DEST | A0,
-    ], // FCMP_AND.f32
-    [
-        0x0F5,
-        24,
-        2,
-        0x01,
-        0x7FFFFFF7FFFFFFFF,
-        THREE | HIGH_2,
-        C | T | N0 | N1 | H0 | H1,
-        DEST | A0,
-    ], // FCMP_AND.v2f16
-    [
-        0x0F8,
-        24,
-        2,
-        0x00,
-        0x7FFFFFF7FFFFFFFF,
-        THREE | HIGH_2,
-        I | T | W32_0 | W32_1,
-        DEST,
-    ], // ICMP_OR.s32
-    [
-        0x0F9,
-        24,
-        2,
-        0x00,
-        0x7FFFFFF7FFFFFFFF,
-        THREE | HIGH_2,
-        I | T | W16_0 | W16_1,
-        DEST,
-    ], // ICMP_OR.v2s16
-    [
-        0x0FA,
-        24,
-        2,
-        0x00,
-        0x7FFFFFF7FFFFFFFF,
-        THREE | HIGH_2,
-        I | T | W8_0 | W8_1,
-        DEST,
-    ], // ICMP_OR.v4s8
+    [0x00, 0, 0, 0, 0x7FFF000000000000, 0, 0, BARE], // NOP
+    [0x1F, 0, 0, 0, 0x7FFF00FFFFFFFFFF, JUMP, BRANCH, BARE], // BRANCHZ
+    [0x20, 0, 0, 0, 0x7FFF00F73C00FFFF, TWO, DISCARD, BARE_A], // DISCARD.f32
+    [0x154, 0, 0, 0, 0x7FFFFF07FFFFFFFF, FOUR, C, DEST], // CSEL.f32
+    [0x155, 0, 0, 0, 0x7FFFFF07FFFFFFFF, FOUR, C, DEST], // CSEL.v2f16
+    [0x90, 16, 5, 0x7, 0x7FFFFFF0C01F00FF, ONE_5, RW16, DEST], // V2S16_TO_V2F16
+    [0x90, 16, 5, 0x17, 0x7FFFFFF0C01F00FF, ONE_5, RW16, DEST], // V2U16_TO_V2F16
+    [0x90, 16, 5, 0x9, 0x7FFFFFF0C01F00FF, ONE_5, RW32, DEST], // S32_TO_F32
+    [0x90, 16, 5, 0x19, 0x7FFFFFF0C01F00FF, ONE_5, RW32, DEST], // U32_TO_F32
+    [0x90, 16, 5, 0x4, 0x7FFFFF00301F00FF, ONE_5, H, DEST], // S16_TO_S32
+    [0x90, 16, 5, 0x5, 0x7FFFFF00301F00FF, ONE_5, H, DEST], // S16_TO_F32
+    [0x90, 16, 5, 0x14, 0x7FFFFF00301F00FF, ONE_5, H, DEST], // U16_TO_U32
+    [0x90, 16, 5, 0x15, 0x7FFFFF00301F00FF, ONE_5, H, DEST], // U16_TO_F32
+    [0x90, 16, 5, 0xC, 0x7FFFFFC0C01F00FF, ONE_5, RN, DEST_A], // F32_TO_S32
+    [0x90, 16, 5, 0x1C, 0x7FFFFFC0C01F00FF, ONE_5, RN, DEST_A], // F32_TO_U32
+    [0x90, 16, 5, 0xE, 0x7FFFFFC0F01F00FF, ONE_5, RNH, DEST_A], // V2F16_TO_V2S16
+    [0x90, 16, 5, 0x1E, 0x7FFFFFC0F01F00FF, ONE_5, RNH, DEST_A], // V2F16_TO_V2U16
+    [0x90, 16, 5, 0xA, 0x7FFFFFC0F01F00FF, ONE_5, RNH, DEST_A], // F16_TO_S32
+    [0x90, 16, 5, 0x1A, 0x7FFFFFC0F01F00FF, ONE_5, RNH, DEST_A], // F16_TO_U32
+    [0x90, 16, 5, 0xB, 0x7FFFFFC0D01F00FF, ONE_5, RNB, DEST_A], // F16_TO_F32
+    [0x90, 16, 5, 0x0, 0x7FFFFF00301F00FF, ONE_5, LANE, DEST], // S8_TO_S32
+    [0x90, 16, 5, 0x1, 0x7FFFFF00301F00FF, ONE_5, LANE, DEST], // S8_TO_F32
+    [0x90, 16, 5, 0x10, 0x7FFFFF00301F00FF, ONE_5, LANE, DEST], // U8_TO_U32
+    [0x90, 16, 5, 0x11, 0x7FFFFF00301F00FF, ONE_5, LANE, DEST], // U8_TO_F32
+    [0x90, 16, 5, 0x2, 0x7FFFFFF0001F00FF, ONE_5, HALVES, DEST], // V2S8_TO_V2S16
+    [0x90, 16, 5, 0x3, 0x7FFFFFF0001F00FF, ONE_5, HALVES, DEST], // V2S8_TO_V2F16
+    [0x90, 16, 5, 0x12, 0x7FFFFFF0001F00FF, ONE_5, HALVES, DEST], // V2U8_TO_V2U16
+    [0x90, 16, 5, 0x13, 0x7FFFFFF0001F00FF, ONE_5, HALVES, DEST], // V2U8_TO_V2F16
+    [0x90, 16, 5, 0xD, 0x7FFFFFC0F01F00FF, ONE_5, RNF, DEST_A], // FROUND.f32
+    [0x90, 16, 5, 0xF, 0x7FFFFFC0F01F00FF, ONE_5, RNH, DEST_A], // FROUND.v2f16
+    [0x91, 16, 4, 0, 0x7FFFFF00000F00FF, ONE_4, 0, DEST], // MOV.i32
+    [0x91, 16, 4, 4, 0x7FFFFF00000F00FF, ONE_4, 0, DEST], // CLZ.u32
+    [0x91, 16, 4, 5, 0x7FFFFF00300F00FF, ONE_4, H, DEST], // CLZ.v2u16
+    [0x91, 16, 4, 6, 0x7FFFFF00000F00FF, ONE_4, 0, DEST], // CLZ.v4u8
+    [0x91, 16, 4, 8, 0x7FFFFFF0000F00FF, ONE_4, W32, DEST], // IABS.s32
+    [0x91, 16, 4, 9, 0x7FFFFFF0000F00FF, ONE_4, W16, DEST], // IABS.v2s16
+    [0x91, 16, 4, 10, 0x7FFFFF00000F00FF, ONE_4, 0, DEST], // IABS.v4s8
+    [0x91, 16, 4, 12, 0x7FFFFF00000F00FF, ONE_4, 0, DEST], // POPCOUNT.i32
+    [0x91, 16, 4, 13, 0x7FFFFF00000F00FF, ONE_4, 0, DEST], // BITREV.i32
+    [0x91, 16, 4, 14, 0x7FFFFF00000F00FF, ONE_4, 0, DEST], // NOT_OLD.i32
+    [0x98, 16, 4, 0, 0x7FFFFFC0300F0FFF, FLUSH, NF, DEST_A], // FLUSH.f32
+    [0x98, 16, 4, 1, 0x7FFFFFC0300F0FFF, FLUSH, NH, DEST_A], // FLUSH.v2f16
+    [0x9C, 16, 4, 0, 0x7FFFFFC0300F00FF, ONE_4, NF, DEST_A], // FRCP.f32
+    [0x9C, 16, 4, 2, 0x7FFFFFC0300F00FF, ONE_4, NF, DEST_A], // FRSQ.f32
+    [0x9C, 16, 4, 8, 0x7FFFFFC0300F00FF, ONE_4, NF, DEST_A], // FLOGD.f32
+    [0x9C, 16, 4, 10, 0x7FFFFFC0300F00FF, ONE_4, NF, DEST_A], // FPCLASS.f32
+    [0x9C, 16, 4, 12, 0x7FFFFFC0300F00FF, ONE_4, NF, DEST_A], // FLOG_TABLE.f32
+    [0x9C, 16, 4, 14, 0x7FFFFFC0300F00FF, ONE_4, NF, DEST_A], // FRCP_APPROX.f32
+    [0x9C, 16, 4, 15, 0x7FFFFFC0300F00FF, ONE_4, NF, DEST_A], // FRSQ_APPROX.f32
+    [0x9C, 16, 4, 4, 0x7FFFFF00000F00FF, ONE_4, 0, DEST], // FSIN_TABLE.u6
+    [0x9C, 16, 4, 5, 0x7FFFFF00000F00FF, ONE_4, 0, DEST], // FCOS_TABLE.u6
+    [0x9C, 16, 4, 6, 0x7FFFFF00000F00FF, ONE_4, 0, DEST], // FSINCOS_OFFSET.u6
+    [0x9C, 16, 4, 13, 0x7FFFFF00000F00FF, ONE_4, 0, DEST], // FEXP_TABLE.u4
+    [0xA4, 16, 4, 0, 0x7FFFFFF33C0FFFFF, TWO_4, ADD_F, DEST_A], // FADD.f32
+    [0xA5, 16, 4, 0, 0x7FFFFFF33C0FFFFF, TWO_4, ADD_H, DEST_A], // FADD.v2f16
+    [0xB8, 0, 0, 0, 0x7FFFFF0300FFFFFF, TRI, X, DEST], // MUX.i32
+    [0xB9, 0, 0, 0, 0x7FFFFF033FFFFFFF, TRI, XH, DEST], // MUX.v2i16
+    [0xBA, 0, 0, 0, 0x7FFFFF0300FFFFFF, TRI, X, DEST], // MUX.v4i8
+    [0xBC, 24, 4, 0, 0x7FFFFFF00FFFFFFF, TRI_4, NN, DEST_A], // CUBE_SSEL
+    [0xBC, 24, 4, 1, 0x7FFFFFF00FFFFFFF, TRI_4, NN, DEST_A], // CUBE_TSEL
+    [0xC0, 0, 0, 0, 0x7FFFFFFC00FFFFFF, TRI, NNN, DEST_A], // CUBEFACE1
+    [0xC1, 0, 0, 0, 0x7FFFFFFC00FFFFFF, TRI, NNN, DEST_A], // CUBEFACE2_V9
+    [0xC2, 24, 4, 0, 0x7FFFFF004FFFFFFF, TRI_4, SAT, DEST], // IDP.v4s8
+    [0xC2, 24, 4, 1, 0x7FFFFF004FFFFFFF, TRI_4, SAT, DEST], // IDP.v4u8
+    [0xF0, 24, 2, 0, 0x7FFFFFF7FFFFFFFF, TRI_2, CMP32, DEST], // ICMP_OR.u32
+    [0xF1, 24, 2, 0, 0x7FFFFFF7FFFFFFFF, TRI_2, CMP16, DEST], // ICMP_OR.v2u16
+    [0xF2, 24, 2, 0, 0x7FFFFFF7FFFFFFFF, TRI_2, CMP8, DEST], // ICMP_OR.v4u8
+    [0xF0, 24, 2, 1, 0x7FFFFFF7FFFFFFFF, TRI_2, CMP32, DEST], // ICMP_AND.u32
+    [0xF1, 24, 2, 1, 0x7FFFFFF7FFFFFFFF, TRI_2, CMP16, DEST], // ICMP_AND.v2u16
+    [0xF2, 24, 2, 1, 0x7FFFFFF7FFFFFFFF, TRI_2, CMP8, DEST], // ICMP_AND.v4u8
+    [0xF4, 24, 2, 0, 0x7FFFFFF7FFFFFFFF, TRI_2, CMP_F, DEST_A], // FCMP_OR.f32
+    [0xF5, 24, 2, 0, 0x7FFFFFF7FFFFFFFF, TRI_2, CMP_H, DEST_A], // FCMP_OR.v2f16
+    [0xF4, 24, 2, 1, 0x7FFFFFF7FFFFFFFF, TRI_2, CMP_F, DEST_A], // FCMP_AND.f32
+    [0xF5, 24, 2, 1, 0x7FFFFFF7FFFFFFFF, TRI_2, CMP_H, DEST_A], // FCMP_AND.v2f16
+    [0xF8, 24, 2, 0, 0x7FFFFFF7FFFFFFFF, TRI_2, CMP32, DEST], // ICMP_OR.s32
+    [0xF9, 24, 2, 0, 0x7FFFFFF7FFFFFFFF, TRI_2, CMP16, DEST], // ICMP_OR.v2s16
+    [0xFA, 24, 2, 0, 0x7FFFFFF7FFFFFFFF, TRI_2, CMP8, DEST], // ICMP_OR.v4s8
     // a kind: width; legal values; default; refusal number
     [0, 0x0001, 0, 0, 0, 0, 0, 0], // absent
     [1, 0x0003, 0, 6, 0, 0, 0, 0], // flag

@@ -1,0 +1,5 @@
+pub mod Walks
+pub mod Program
+pub mod Verdict
+pub mod Reasons
+pub mod Demand3

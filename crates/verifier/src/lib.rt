@@ -1,0 +1,41 @@
+// The verifier (the paper's check): whether a container's annotations prove that no walk reads a register that is not defined there.
+use crate::program::judge_words;
+use crate::verdict::NO_REGISTER;
+use crate::verdict::Verdict;
+use crate::verdict::refused;
+use container::header::Opening;
+use container::header::open;
+use container::layout::HEADER_LENGTH;
+use container::layout::WORD_LENGTH;
+ghost use mathlib.Core.Path.{_≡_};
+ghost use Rattle.verifier.specs.Verdict.{verdict-outcome, verdict-of};
+ghost use Rattle.verifier.specs.Demand3.{Demand3At};
+
+pub mod flow;
+pub mod program;
+pub mod verdict;
+
+// Verifies a container.
+pub fn verify(bytes: &[u8]) -> Verdict
+    ensures verdict { λ r. ⌜ verdict-outcome r ≡ verdict-of (now (bytes .entry)) ⌝ }
+    ensures demand { λ r. ⌜ Demand3At (now (bytes .entry)) (verdict-outcome r) ⌝ }
+{
+    match open(bytes) {
+        Opening::Opened(header) => {
+            let n = header.count;
+            let entry = header.entry;
+            let middle = HEADER_LENGTH + WORD_LENGTH * n;
+            let table = isa::table::made();
+            return judge_words(
+                &table,
+                &bytes[HEADER_LENGTH..middle],
+                &bytes[middle..],
+                n,
+                entry,
+            );
+        }
+        Opening::Refused(number) => {
+            return refused(number, 0, 0, NO_REGISTER);
+        }
+    }
+}

@@ -1,0 +1,73 @@
+// One pass over the words of a program and its annotations.
+use crate::flow::annotation_at;
+use crate::flow::judge_instruction;
+use crate::verdict::NO_REGISTER;
+use crate::verdict::Verdict;
+use crate::verdict::none_missing;
+use crate::verdict::refused;
+use container::layout::WORD_LENGTH;
+use isa::answer::Reading;
+use isa::instruction::Instruction;
+use isa::reader::read_with;
+use isa::table::Table;
+ghost use mathlib.Core.Path.{_≡_};
+ghost use Prim.Native.Nat.{_*_, _<_};
+ghost use Rattle.bits.specs.Outcomes.{_then_};
+ghost use Rattle.isa.specs.Answers.{reading};
+ghost use Rattle.isa.specs.Reader.{read};
+ghost use Rattle.isa.specs.Table.{table};
+ghost use Rattle.container.specs.Container.{eight};
+ghost use Rattle.verifier.specs.Program.{program-in, annotation-at, Worded, Annotated};
+ghost use Rattle.verifier.specs.Verdict.{verdict-outcome, first, judge-word, judge-instruction, judge-program};
+
+// The number of the refusal where the first annotation names a register outside the entry set.
+const ENTRY_MISSING: u8 = 23;
+
+// The word at index i, read.
+pub fn reading_at(t: &Table, words: &[u8], n: usize, i: usize) -> Reading
+    requires { ⌜ Worded (now words) n × (i < n) × (now t ≡ table) ⌝ }
+    ensures { λ r. ⌜ reading r ≡ read (eight (now (words .entry)) i) ⌝ }
+{
+    let start = WORD_LENGTH * i;
+    let end = start + WORD_LENGTH;
+    read_with(t, &words[start..end])
+}
+
+// The verdict that is kept so far, and where that accepts, the verdict on instruction i.
+fn settle(kept: Verdict, annotations: &[u8], n: usize, i: usize, x: Instruction) -> Verdict
+    requires { ⌜ Annotated (now annotations) n × (i < n) ⌝ }
+    ensures { λ r. ⌜ verdict-outcome r ≡ (verdict-outcome kept then judge-instruction n (annotation-at (now (annotations .entry))) i x) ⌝ }
+{
+    match kept {
+        Verdict::Accepted => judge_instruction(annotations, n, i, x),
+        Verdict::Refused(f) => Verdict::Refused(f),
+    }
+}
+
+// The verdict on n words and annotations, before which `entry` is defined. A word that does not read comes before any other refusal.
+pub fn judge_words<'a>(
+    t: &Table,
+    words: &'a [u8],
+    annotations: &'a [u8],
+    n: usize,
+    entry: u64,
+) -> Verdict
+    requires { ⌜ Worded (now words) n × Annotated (now annotations) n × (0 < n) × (now t ≡ table) ⌝ }
+    ensures { λ r. ⌜ verdict-outcome r ≡ (first (judge-word (now (words .entry))) n then judge-program (program-in (now (words .entry)) (now (annotations .entry)) n entry)) ⌝ }
+{
+    let mut kept = none_missing(ENTRY_MISSING, 0, annotation_at(annotations, n, 0), entry);
+    let mut i = 0;
+    while i < n {
+        let r = reading_at(t, words, n, i);
+        match r {
+            Reading::Read(x) => {
+                kept = settle(kept, annotations, n, i, x);
+            }
+            Reading::Refused(f) => {
+                return refused(f.number, f.place, i, NO_REGISTER);
+            }
+        }
+        i += 1;
+    }
+    kept
+}
