@@ -1,11 +1,11 @@
 -- Laws of slots, for any place and width: a word put together and taken apart, and its mask. Assumes nothing.
-use mathlib.Core.Path.{_≡_, refl, sym, ap, ap₂, _∙_, subst}
+use mathlib.Core.Path.{_≡_, refl, sym, ap, ap₂, _∙_}
 use mathlib.Core.Bool.{Bool, true, false, _&&_, _||_}
 use mathlib.Core.List.{List, [], _∷_}
 use Prim.Native.Nat.{ℕ, zero, suc, _+_, _-_, _*_, _/_, _%_, _^_, _≤_, _<_}
 use native.Mathlib.Nat.{mod-lt, mod-one, mul-assoc, mul-comm, mul-add, add-mul, add-suc, not-suc-le-zero, le-of-suc-le-suc, one-mul, le-of-eq, pow-suc, mul-mod-left, div-eq-of-lt, sub-add-cancel, add-comm, add-assoc, mod-eq-of-lt, lt-of-lt-of-le, add-zero, zero-add, zero-mul, two-pow-succ}
 use native.Mathlib.Omega.{arith}
-use lib.Dec.{T, leb, ltb, eqb, leb→le, ltb→lt, eqb→eq, lt→ltb}
+use lib.Dec.{T, leb, ltb, eqb, leb→le, ltb→lt, lt→ltb}
 use lib.ListN.{length, getD, drop, drop-of-length-le}
 use lib.Seq.{drop-cons, drop-length}
 use lib.Arith.{digits-lt}

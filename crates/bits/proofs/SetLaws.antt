@@ -3,11 +3,11 @@ use Prim.Native.Nat.{ℕ, zero, suc, _+_, _-_, _*_, _/_, _%_, _^_, _≤_, _<_, m
 use mathlib.Core.Path.{_≡_, refl, sym, ap, ap₂, _∙_, subst}
 use mathlib.Core.Logic.{_⊎_, inl, inr, ⊎-elim, _↔_, _≢_}
 use native.Mathlib.Omega.{arith}
-use native.Mathlib.Nat.{mod-lt, pow-suc, mul-comm, one-mul, add-zero, zero-add, div-one, div-div-eq-div-mul, div-eq-of-lt, lt-of-lt-of-le, eq-or-lt-of-le}
+use native.Mathlib.Nat.{mod-lt, pow-suc, one-mul, add-zero, zero-add, div-one, div-div-eq-div-mul, div-eq-of-lt, lt-of-lt-of-le, eq-or-lt-of-le}
 use native.Mathlib.Numerals.{add-one}
-use lib.Arith.{digits-mod, bin-ind}
+use lib.Arith.{bin-ind}
 use lib.Pow.{shr-shr, shl-shr, pow-pos, pow-mono}
-use lib.Bits.{bitAnd, bitOr, and-step, or-step, and-shr, or-shr, and-le-l, and-le-r}
+use lib.Bits.{bitAnd, bitOr, and-step, or-step, and-le-l, and-le-r}
 use lib.Count.{trailingZeros, under}
 use mathlib.Core.Bool.{Bool, true, false, _&&_, not}
 use lib.Dec.{eqb, ltb}

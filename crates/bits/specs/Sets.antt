@@ -1,6 +1,6 @@
 -- Sets of numbers below 64, as 64-bit words: r is in the set where bit r is 1.
 use mathlib.Core.Path.{_≡_}
-use mathlib.Core.Bool.{Bool, true, false}
+use mathlib.Core.Bool.{Bool}
 use Prim.Native.Nat.{ℕ, zero, suc, _-_, _/_, _%_, _^_}
 use lib.Dec.{eqb, ltb}
 use lib.Bits.{bitAnd, bitOr}

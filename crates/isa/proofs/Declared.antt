@@ -1,36 +1,30 @@
 -- What is read and what is written, said without the search and without the order of refusals. Assumes nothing.
-use mathlib.Core.Path.{_≡_, refl, sym, ap, ap₂, _∙_, subst}
+use mathlib.Core.Path.{_≡_, refl, sym, ap, _∙_, subst}
 use mathlib.Core.Bool.{Bool, true, false, not, _&&_, _||_}
 use mathlib.Core.List.{List, [], _∷_}
-use mathlib.Core.Logic.{_⊎_, ⊎-elim, inl, inr, _↔_, _≢_}
+use mathlib.Core.Logic.{_⊎_, inl, inr}
 use Prim.Native.Nat.{ℕ, zero, suc, _+_, _-_, _*_, _^_, _<_, _≤_}
-use native.Mathlib.Nat.{not-suc-le-zero, le-of-suc-le-suc, mod-one}
+use native.Mathlib.Nat.{not-suc-le-zero, le-of-suc-le-suc}
 use native.Mathlib.Omega.{arith}
-use lib.Dec.{T, ltb, leb, eqb, ltb→lt, leb→le, eqb→eq, lt→ltb}
+use lib.Dec.{T, ltb, leb, eqb, ltb→lt, eqb→eq}
 use lib.IntN.{ℤ, pos, negsuc}
 use lib.ListN.{length, getD}
 use borrow.Author.Tests.{eq-eqb, ne-eqb, eqb-true, lt-ltb, le-ltb, le-leb, ltb-true, ltb-false, leb-true}
-use Rattle.bits.specs.Fields.{bits, choose, Slot, split, fit, assigned}
-use Rattle.bits.specs.Bytes.{little}
-use Rattle.bits.specs.Outcomes.{Outcome, gives, refuses, passes, require, _then_}
+use Rattle.bits.specs.Fields.{choose}
+use Rattle.bits.specs.Outcomes.{passes, _then_}
 use Rattle.bits.proofs.Every.{every, at, and-l, and-r}
-use Rattle.bits.proofs.FieldLaws.{Fit, none, some, fit-rule, fit-at}
 use Rattle.bits.proofs.OutcomeLaws.{then-gives, required}
-use Rattle.isa.specs.Kinds.{Kind, Range, About, about, width, within, absent, source, offset, second, register, half-mask, opcode, page, flow}
+use Rattle.isa.specs.Kinds.{Kind, Range, about, width, within, absent, source, offset, second, register, half-mask, opcode, page, flow}
 use Rattle.isa.specs.Sources.{source-legal}
 use Rattle.isa.specs.Rows.{Row, Modifier, rows, row-of, no-row, row-count}
-use Rattle.isa.specs.Layout.{Field, field, layout, modifier-at, modifier-lows, modifier-field, source-field, second-field, where-has, slots, slot-of, slot-count, no-field, field-of, width-of, fits, at-s0, at-s1, at-offset, at-m8, at-m10, at-m11, at-s2, at-s3, at-m24, at-m26, at-m28, at-m30, at-m32, at-m34, at-m35, at-m36, at-m37, at-m38, at-m39, at-register, at-half-mask, at-page, at-flow}
-use Rattle.isa.specs.Instructions.{offset-number, offset-of, instruction-of, number-in, numbers, second-number}
+use Rattle.isa.specs.Layout.{Field, field, layout, modifier-at, modifier-lows, modifier-field, source-field, where-has, slot-count, no-field, at-page}
+use Rattle.isa.specs.Instructions.{offset-number, offset-of, second-number}
 use Rattle.isa.specs.Legality.{legal, refused-by, scan, first-refused, none-refused, judge}
 use Rattle.isa.specs.Answers.{refusal}
-use Rattle.isa.specs.Writer.{judge-instruction}
-use Rattle.isa.specs.Demand2.{Allowed, Each, Beside, Destined, Sourced, InRange, Offset, LegalRecord, modifier-values}
+use Rattle.isa.specs.Demand2.{Allowed, Each, Destined, Sourced, InRange, Offset}
 use Rattle.isa.specs.declared.instruction.Instruction.{Instruction}
-use Rattle.isa.specs.declared.answer.Refusal.{Refusal}
 use Rattle.isa.proofs.TableLaws.{in-table, layout-length}
-use Rattle.isa.proofs.RowLaws.{slots-length, slot-width}
 use Rattle.isa.proofs.OffsetLaws.{offset-back}
-use Rattle.isa.proofs.WriterLaws.{legal-row, legal-fit, legal-numbers, is-true}
 
 clash : {A : Type 0} → true ≡ false → A
 clash e = let z : _≡_ {A = ℕ} 0 1 = cc in absurd (omega arith)

@@ -10,15 +10,15 @@ use lib.ListN.{length, getD, replicate}
 use lib.Pow.{areBytes}
 use borrow.Author.Tests.{eqb-true}
 use Rattle.bits.specs.Bytes.{little-bytes}
-use Rattle.bits.specs.Outcomes.{Outcome, gives, refuses, passes, require, _then_}
+use Rattle.bits.specs.Outcomes.{Outcome, gives, refuses, passes, require}
 use Rattle.bits.proofs.Every.{and-l, and-r}
 use Rattle.bits.proofs.OutcomeLaws.{then-gives, required, never}
-use Rattle.isa.specs.Instructions.{instruction-of, word-of}
+use Rattle.isa.specs.Instructions.{word-of}
 use Rattle.isa.specs.Reader.{read}
 use Rattle.isa.specs.Writer.{write, stored, kept-or, judge-instruction}
 use Rattle.isa.specs.Answers.{refusal}
 use Rattle.isa.specs.Demand2.{Readable, LegalRecord, Given, Demand2, ReadAsAsked, WrittenAsAsked}
-use Rattle.isa.specs.Examples.{Example, examples}
+use Rattle.isa.specs.Examples.{examples}
 use Rattle.isa.specs.declared.instruction.Instruction.{Instruction}
 use Rattle.isa.specs.declared.answer.Refusal.{Refusal}
 use Rattle.isa.proofs.ReadableWords.{no-two, readable-read, read-readable}

@@ -1,9 +1,9 @@
+use Rattle.bits.specs.Outcomes.{_then_}
 -- The worked examples A to L, by computation. Assumes nothing.
 use mathlib.Core.Path.{refl}
 use Rattle.bits.specs.Fields.{join, fit, assigned}
 use Rattle.bits.specs.Bytes.{little, little-bytes}
 use Rattle.bits.specs.Sets.{lowest-from}
-use Rattle.bits.specs.Outcomes.{_then_}
 use Rattle.isa.specs.Rows.{rows}
 use Rattle.isa.specs.Layout.{layout, modifier-at}
 use Rattle.isa.specs.Sources.{meaning}

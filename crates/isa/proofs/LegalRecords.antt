@@ -1,31 +1,25 @@
 -- A record is written exactly when it is legal. Assumes nothing.
-use mathlib.Core.Path.{_≡_, refl, sym, ap, _∙_, subst}
-use mathlib.Core.Bool.{Bool, true, false}
-use mathlib.Core.List.{List, [], _∷_}
-use mathlib.Core.Logic.{_↔_, _⊎_, inl, inr}
-use Prim.Native.Nat.{ℕ, zero, suc, _+_, _*_, _^_, _<_, _≤_}
-use native.Mathlib.Nat.{mod-one, mod-lt}
+use mathlib.Core.Path.{_≡_, refl, subst}
+use mathlib.Core.Bool.{true}
+use mathlib.Core.List.{List}
+use mathlib.Core.Logic.{inl, inr}
+use Prim.Native.Nat.{ℕ, _*_, _^_, _<_}
 use native.Mathlib.Omega.{arith}
-use lib.Dec.{T, ltb, leb, eqb}
+use lib.Dec.{ltb, eqb}
 use lib.ListN.{length, getD}
-use lib.Pow.{pow-pos}
-use borrow.Author.Tests.{eq-eqb, lt-ltb, le-leb}
-use Rattle.bits.specs.Fields.{bits, Slot, fit, assigned}
-use Rattle.bits.specs.Bytes.{little}
-use Rattle.bits.specs.Outcomes.{Outcome, gives, refuses, passes, require, _then_}
+use borrow.Author.Tests.{lt-ltb}
+use Rattle.bits.specs.Fields.{Slot, fit}
+use Rattle.bits.specs.Outcomes.{passes, _then_}
 use Rattle.bits.proofs.FieldLaws.{Fit, none, some, fit-rule, fit-at}
-use Rattle.isa.specs.Kinds.{Kind, about, width, within, absent, source, offset, second, register, half-mask, flow}
-use Rattle.isa.specs.Sources.{source-legal}
-use Rattle.isa.specs.Rows.{Row, Modifier, rows, row-of, row-count}
-use Rattle.isa.specs.Layout.{Field, field, layout, modifier-at, modifier-lows, slots, slot-of, slot-count, no-field, field-of, width-of, fits, where-has, at-s0, at-s1, at-offset, at-m8, at-m10, at-m11, at-s2, at-s3, at-m24, at-m26, at-m28, at-m30, at-m32, at-m34, at-m35, at-m36, at-m37, at-m38, at-m39, at-register, at-half-mask, at-page, at-flow}
-use Rattle.isa.specs.Instructions.{offset-number, instruction-of, number-in, numbers}
-use Rattle.isa.specs.Legality.{judge}
+use Rattle.isa.specs.Kinds.{width, source, offset, second, register, flow}
+use Rattle.isa.specs.Rows.{Row, row-of, row-count}
+use Rattle.isa.specs.Layout.{Field, field, layout, modifier-at, modifier-lows, slots, slot-of, slot-count, no-field, field-of, width-of, where-has, at-s0, at-s1, at-offset, at-m8, at-m10, at-m11, at-s2, at-s3, at-m24, at-m26, at-m28, at-m30, at-m32, at-m34, at-m35, at-m36, at-m37, at-m38, at-m39, at-register, at-half-mask, at-page, at-flow}
+use Rattle.isa.specs.Instructions.{numbers}
 use Rattle.isa.specs.declared.instruction.Instruction.{Instruction}
-use Rattle.isa.specs.declared.answer.Refusal.{Refusal}
 use Rattle.isa.proofs.RowLaws.{slots-length, slot-width}
-use Rattle.isa.proofs.Declared.{All, all-at, Spared, spared-legal, Unrefused, unrefused, judged-none, Good, good, Ordinary, ordinary, room, allowed, modifiers-each, modifier-there, Fair, fair-unrefused, fair-source, fair-free, fair-mask, fair-modifier, opcode-room, second-room, offset-room, room-offset, source-room, room-source, register-room, mask-room, room-destined, destined-mask, flow-room}
+use Rattle.isa.proofs.Declared.{All, all-at, Spared, spared-legal, Unrefused, unrefused, judged-none, Good, good, ordinary, room, allowed, Fair, fair-unrefused, fair-source, fair-free, fair-mask, fair-modifier, opcode-room, second-room, offset-room, room-offset, source-room, room-source, register-room, mask-room, room-destined, destined-mask, flow-room}
 use Rattle.isa.specs.Writer.{judge-instruction}
-use Rattle.isa.specs.Demand2.{Allowed, Beside, Destined, Sourced, Offset, LegalRecord, modifier-values}
+use Rattle.isa.specs.Demand2.{Allowed, Beside, Sourced, LegalRecord, modifier-values}
 use Rattle.isa.proofs.WriterLaws.{legal-row, legal-fit, legal-numbers, is-true}
 
 fit-true : {ss : List Slot} {vs : List ℕ} → Fit ss vs → fit ss vs ≡ true

@@ -1,24 +1,17 @@
 -- What is found to be illegal, field by field. Assumes nothing.
-use mathlib.Core.Path.{_≡_, refl, sym, ap, _∙_}
-use mathlib.Core.Bool.{Bool, true, false, not, _&&_}
-use mathlib.Core.List.{List, [], _∷_}
-use Prim.Native.Nat.{ℕ, zero, suc, _+_, _/_, _<_, _≤_}
-use native.Mathlib.Nat.{not-suc-le-zero, le-of-suc-le-suc, le-refl}
-use native.Mathlib.Omega.{arith}
-use lib.Dec.{T, ltb, leb, eqb}
+use mathlib.Core.Path.{_≡_, sym, _∙_}
+use mathlib.Core.Bool.{Bool, true, false, not}
+use mathlib.Core.List.{List}
+use Prim.Native.Nat.{ℕ, suc, _/_, _<_, _≤_}
 use lib.ListN.{length, getD, drop}
 use lib.Seq.{drop-cons, drop-length}
-use borrow.Author.Tests.{eq-eqb, ne-eqb, le-leb, lt-leb, leb-true, eqb-false}
-use Rattle.bits.specs.Fields.{choose}
-use Rattle.bits.specs.Outcomes.{Outcome, gives, refuses, passes, require, _then_}
-use Rattle.bits.proofs.OutcomeLaws.{then-gives, required, never}
-use Rattle.isa.specs.Kinds.{Kind, about, within}
+use borrow.Author.Tests.{eq-eqb, ne-eqb, le-leb, lt-leb}
+use Rattle.bits.specs.Outcomes.{refuses, passes, _then_}
+use Rattle.isa.specs.Kinds.{about, within}
 use Rattle.isa.specs.Sources.{source-legal}
-use Rattle.isa.specs.Layout.{Field, slot-count, low-of, layout}
-use Rattle.isa.specs.Rows.{row-of}
-use Rattle.isa.specs.Legality.{legal, refused-by, scan, first-refused, none-refused, judge}
+use Rattle.isa.specs.Layout.{Field, slot-count, low-of}
+use Rattle.isa.specs.Legality.{legal, refused-by, scan, first-refused, judge}
 use Rattle.isa.specs.Answers.{refusal}
-use Rattle.isa.specs.declared.answer.Refusal.{Refusal}
 
 -- ---- one field
 

@@ -1,18 +1,16 @@
 -- Names are handed out as they are: one test over the rows. Assumes nothing.
-use mathlib.Core.Path.{_≡_, refl, ap, sym, _∙_, subst}
-use mathlib.Core.Bool.{Bool, true, false, _&&_}
-use mathlib.Core.List.{List, [], _∷_, map}
-use Prim.Native.Nat.{ℕ, zero, suc, _+_, _<_, _≤_}
+use mathlib.Core.Path.{_≡_, ap, _∙_}
+use mathlib.Core.Bool.{Bool}
+use mathlib.Core.List.{List, []}
+use Prim.Native.Nat.{ℕ, suc, _<_, _≤_}
 use native.Mathlib.Omega.{arith}
 use lib.Dec.{T, eqb, eqb→eq}
 use lib.ListN.{length, getD, drop, List·getD-eq-default}
 use lib.Seq.{drop-cons, drop-length}
 use borrow.Author.Tests.{eq-eqb, ne-eqb}
-use Rattle.bits.specs.Fields.{choose}
 use Rattle.bits.proofs.Every.{every, at}
 use Rattle.isa.specs.Rows.{Row, rows, row-of, no-row, row-count}
-use Rattle.isa.specs.Names.{ascii, name-of, name-width, padded, name, names, before-space}
-use Rattle.isa.specs.declared.names.Name.{Name}
+use Rattle.isa.specs.Names.{ascii, name-of, padded, name, names, before-space}
 use Rattle.isa.proofs.TableLaws.{in-table, count-rows, getD-map-in}
 
 -- the count up to a space, byte by byte

@@ -1,31 +1,29 @@
 -- A word is read exactly when it is readable. Assumes nothing.
-use mathlib.Core.Path.{_≡_, refl, sym, ap, _∙_, subst}
-use mathlib.Core.Bool.{Bool, true, false}
-use mathlib.Core.List.{List, [], _∷_}
-use mathlib.Core.Logic.{_↔_, _⊎_, inl, inr}
-use Prim.Native.Nat.{ℕ, zero, suc, _+_, _*_, _^_, _<_, _≤_}
+use mathlib.Core.Path.{_≡_, refl, subst}
+use mathlib.Core.Bool.{Bool, true}
+use mathlib.Core.List.{List}
+use mathlib.Core.Logic.{inl, inr}
+use Prim.Native.Nat.{ℕ, zero, suc, _*_, _<_}
 use native.Mathlib.Nat.{mod-one, mod-lt}
 use native.Mathlib.Omega.{arith}
-use lib.Dec.{T, ltb, leb, eqb}
+use lib.Dec.{ltb, eqb}
 use lib.ListN.{length, getD}
 use lib.Pow.{pow-pos}
-use borrow.Author.Tests.{eq-eqb, lt-ltb, le-leb}
-use Rattle.bits.specs.Fields.{bits, Slot, fit, assigned}
+use borrow.Author.Tests.{eq-eqb, lt-ltb}
+use Rattle.bits.specs.Fields.{bits}
 use Rattle.bits.specs.Bytes.{little}
-use Rattle.bits.specs.Outcomes.{Outcome, gives, refuses, passes, require, _then_}
-use Rattle.bits.proofs.FieldLaws.{Fit, none, some, fit-rule, fit-at}
-use Rattle.isa.specs.Kinds.{Kind, about, width, within, absent, source, offset, second, register, half-mask, flow}
+use Rattle.bits.specs.Outcomes.{gives, passes, _then_}
+use Rattle.isa.specs.Kinds.{Kind, width, absent, source, offset, second, register, half-mask, flow}
 use Rattle.isa.specs.Sources.{source-legal}
-use Rattle.isa.specs.Rows.{Row, Modifier, rows, row-of, row-count}
-use Rattle.isa.specs.Layout.{Field, field, layout, modifier-at, modifier-lows, slots, slot-of, slot-count, no-field, field-of, width-of, fits, where-has, at-s0, at-s1, at-offset, at-m8, at-m10, at-m11, at-s2, at-s3, at-m24, at-m26, at-m28, at-m30, at-m32, at-m34, at-m35, at-m36, at-m37, at-m38, at-m39, at-register, at-half-mask, at-page, at-flow}
-use Rattle.isa.specs.Instructions.{offset-number, instruction-of, number-in, numbers}
+use Rattle.isa.specs.Rows.{Row, rows, row-of, row-count}
+use Rattle.isa.specs.Layout.{Field, field, layout, modifier-at, modifier-lows, slot-count, field-of, fits, where-has, at-s0, at-s1, at-m8, at-m10, at-m11, at-s2, at-s3, at-m24, at-m26, at-m28, at-m30, at-m32, at-m34, at-m35, at-m36, at-m37, at-m38, at-m39, at-half-mask, at-page, at-flow}
+use Rattle.isa.specs.Instructions.{instruction-of, numbers}
 use Rattle.isa.specs.Legality.{judge}
 use Rattle.isa.specs.declared.instruction.Instruction.{Instruction}
-use Rattle.isa.specs.declared.answer.Refusal.{Refusal}
 use Rattle.isa.proofs.RowLaws.{one-row, four-sources}
-use Rattle.isa.proofs.Declared.{All, all-at, Spared, spared-legal, Unrefused, unrefused, judged-none, Good, good, Ordinary, ordinary, room, allowed, modifiers-each, modifier-there, Fair, fair-unrefused, fair-source, fair-free, fair-mask, fair-modifier, opcode-room, second-room, offset-room, room-offset, source-room, room-source, register-room, mask-room, room-destined, destined-mask, flow-room}
-use Rattle.isa.specs.Reader.{find, lowest-stray, read-row, read-number, read}
-use Rattle.isa.specs.Demand2.{Allowed, Each, Fits, Readable, Given}
+use Rattle.isa.proofs.Declared.{All, all-at, Spared, spared-legal, Unrefused, unrefused, judged-none, good, ordinary, allowed, modifiers-each, modifier-there, Fair, fair-unrefused, fair-source, fair-free, fair-mask, fair-modifier}
+use Rattle.isa.specs.Reader.{find, read-row, read}
+use Rattle.isa.specs.Demand2.{Allowed, Each, Fits, Readable}
 use Rattle.isa.proofs.RowLaws.{opcode-there, second-there}
 use Rattle.isa.proofs.ReaderLaws.{find-below, find-fits, clean-stray, stray-clean}
 use Rattle.isa.proofs.RoundTrip.{Found, found}

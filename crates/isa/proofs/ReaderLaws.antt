@@ -2,25 +2,24 @@
 use mathlib.Core.Path.{_≡_, refl, sym, ap, _∙_, subst}
 use mathlib.Core.Bool.{Bool, true, false, _&&_, not}
 use mathlib.Core.List.{List, [], _∷_}
-use Prim.Native.Nat.{ℕ, zero, suc, _+_, _-_, _*_, _/_, _%_, _^_, _≤_, _<_}
+use Prim.Native.Nat.{ℕ, zero, suc, _+_, _/_, _^_, _≤_, _<_}
 use native.Mathlib.Nat.{mod-lt, mod-one, not-suc-le-zero, le-of-suc-le-suc, lt-of-lt-of-le, le-refl, div-eq-of-lt, zero-add}
 use native.Mathlib.Omega.{arith}
-use lib.Dec.{T, leb, ltb, eqb, lt→ltb}
+use lib.Dec.{T, ltb, eqb}
 use lib.Pow.{pow-pos, pow-mono}
 use lib.ListN.{length, getD, drop}
 use lib.Seq.{drop-cons}
 use borrow.Author.Tests.{eq-eqb, ne-eqb, eqb-true, eqb-false, ltb-true, ltb-false, lt-ltb, le-ltb, le-leb, lt-leb}
-use Rattle.bits.specs.Fields.{bits, choose, Slot, split, join, fit, assigned, mask}
+use Rattle.bits.specs.Fields.{bits, choose, split, join, fit, assigned, mask}
 use Rattle.bits.specs.Bytes.{little}
-use Rattle.bits.specs.Sets.{has, minus, lowest, lowest-from}
-use Rattle.bits.specs.Outcomes.{Outcome, gives, refuses, passes, require, _then_}
-use Rattle.bits.proofs.Every.{and-l, and-r}
-use Rattle.bits.proofs.FieldLaws.{Apart, Fit, fit-rule, Clean, join-split, join-blank, mask-has, split-fit}
+use Rattle.bits.specs.Sets.{has, minus, lowest}
+use Rattle.bits.specs.Outcomes.{Outcome, gives, refuses, _then_}
+use Rattle.bits.proofs.FieldLaws.{join-split, mask-has, split-fit}
 use Rattle.bits.proofs.SetLaws.{lowest-ext, lowest-le, lowest-below, lowest-none, has-minus-test}
 use Rattle.isa.specs.Kinds.{width, second}
 use Rattle.isa.specs.Rows.{Row, rows, row-of, no-row, row-count}
-use Rattle.isa.specs.Layout.{layout, slots, fits, where-has, at-offset, at-page, width-of}
-use Rattle.isa.specs.Instructions.{offset-number, offset-of, number-in, instruction-of, listing, numbers, second-number}
+use Rattle.isa.specs.Layout.{layout, slots, fits, where-has, at-offset, width-of}
+use Rattle.isa.specs.Instructions.{number-in, instruction-of, listing, numbers}
 use Rattle.isa.specs.Legality.{judge}
 use Rattle.isa.specs.Reader.{find, stray, lowest-stray, read-row, read-number, read}
 use Rattle.isa.specs.Answers.{refusal, reading, judging, judged}

@@ -1,28 +1,28 @@
 -- Reading and writing undo one another. Assumes nothing.
-use mathlib.Core.Path.{_≡_, refl, sym, ap, ap₂, _∙_}
-use mathlib.Core.Bool.{Bool, true, false, _&&_}
-use mathlib.Core.List.{List, [], _∷_}
-use mathlib.Core.Logic.{_⊎_, ⊎-elim, inl, inr}
-use Prim.Native.Nat.{ℕ, zero, suc, _+_, _<_, _≤_, _^_}
+use mathlib.Core.Path.{_≡_, refl, sym, ap, _∙_}
+use mathlib.Core.Bool.{Bool, true, false}
+use mathlib.Core.List.{List}
+use mathlib.Core.Logic.{⊎-elim, _≢_}
+use Prim.Native.Nat.{ℕ, _<_, _^_}
 use native.Mathlib.Nat.{mod-one, lt-of-lt-of-le}
 use native.Mathlib.Omega.{arith}
 use lib.Dec.{T, ltb, leb, eqb}
 use lib.ListN.{length, getD}
 use lib.Pow.{pow-mono, areBytes}
-use borrow.Author.Tests.{eq-eqb, lt-ltb, le-leb, eqb-true, ltb-true, leb-true}
-use Rattle.bits.specs.Fields.{bits, choose, Slot, split, join, fit, assigned}
+use borrow.Author.Tests.{eq-eqb, lt-ltb, eqb-true, ltb-true, leb-true}
+use Rattle.bits.specs.Fields.{bits, choose, split, join, fit}
 use Rattle.bits.specs.Bytes.{little, little-bytes}
 use Rattle.bits.specs.Outcomes.{Outcome, gives, refuses, passes, require, _then_}
-use Rattle.bits.proofs.OutcomeLaws.{then-gives, required}
+use Rattle.bits.proofs.OutcomeLaws.{then-gives, required, then-refuses, then-refused, refused, never}
 use Rattle.bits.proofs.ByteLaws.{little-lt, bytes-of-little, little-of-bytes, length-bytes}
-use Rattle.bits.proofs.FieldLaws.{Apart, Fit, fit-rule, fit-at, split-join, join-lt, join-blank}
+use Rattle.bits.proofs.FieldLaws.{Fit, fit-rule, fit-at, split-join, join-lt, join-blank}
 use Rattle.isa.specs.Kinds.{width, second}
 use Rattle.isa.specs.Rows.{Row, rows, row-of, row-count}
-use Rattle.isa.specs.Layout.{slots, layout, slot-of, no-field, fits, where-has, width-of, at-s0, at-s1, at-offset, at-m8, at-m10, at-m11, at-s2, at-second-16, at-s3, at-second-24, at-m24, at-m26, at-m28, at-m30, at-m32, at-m34, at-m35, at-m36, at-m37, at-m38, at-m39, at-register, at-half-mask, at-opcode, at-page, at-flow}
-use Rattle.isa.specs.Instructions.{offset-number, offset-of, number-in, instruction-of, numbers, second-number, word-of}
-use Rattle.isa.specs.Legality.{judge}
+use Rattle.isa.specs.Layout.{slot-count, slots, layout, slot-of, no-field, fits, where-has, width-of, at-s0, at-s1, at-offset, at-m8, at-m10, at-m11, at-s2, at-second-16, at-s3, at-second-24, at-m24, at-m26, at-m28, at-m30, at-m32, at-m34, at-m35, at-m36, at-m37, at-m38, at-m39, at-register, at-half-mask, at-opcode, at-page, at-flow}
+use Rattle.isa.specs.Instructions.{offset-of, number-in, instruction-of, numbers, second-number, word-of}
+use Rattle.isa.specs.Legality.{first-refused, none-refused, judge}
 use Rattle.isa.specs.Reader.{find, lowest-stray, read-row, read-number, read}
-use Rattle.isa.specs.Writer.{judge-instruction, is-record, write, stored, kept-or}
+use Rattle.isa.specs.Writer.{judge-instruction, is-record, write, stored}
 use Rattle.isa.specs.Answers.{refusal}
 use Rattle.isa.specs.declared.instruction.Instruction.{Instruction}
 use Rattle.isa.specs.declared.answer.Refusal.{Refusal}
@@ -216,3 +216,44 @@ module _ (i : Instruction) (legal : judge-instruction i ≡ passes) (buffer : Li
   pub stored-word : stored i buffer ≡ little-bytes 8 (word-of i)
   unfolding stored
   stored-word = rw written
+
+-- ---- 15 is never given
+
+other : (n p : ℕ) (f : Refusal) → n ≢ 15 → refusal n p ≡ f → f .number ≢ 15
+other n p f d e q = d (ap (λ (x : Refusal). x .number) e ∙ q)
+
+judge-other : (k : ℕ) (vs : List ℕ) (f : Refusal) → judge k vs ≡ refuses f → f .number ≢ 15
+unfolding judge
+judge-other k vs f e =
+    ⊎-elim (one 4 0 (λ q. omega arith))
+    (λ e5. ⊎-elim (one 5 0 (λ q. omega arith))
+    (λ e6. ⊎-elim (one 6 _ (λ q. omega arith)) (one 7 _ (λ q. omega arith)) (then-refuses (none-refused 6 k vs _) _ f e6))
+    (then-refuses (none-refused 5 k vs 0) _ f e5))
+    (then-refuses (none-refused 4 k vs 0) _ f e)
+  where
+    one : (n p : ℕ) → n ≢ 15 → none-refused n k vs p ≡ refuses f → f .number ≢ 15
+    one n p d r = other n p f d (refused (leb slot-count (first-refused n k vs)) (refusal n p) f r)
+
+instruction-other : (i : Instruction) (f : Refusal) → judge-instruction i ≡ refuses f → f .number ≢ 15
+unfolding judge-instruction
+instruction-other i f e =
+    ⊎-elim (λ r. other 2 0 f (λ q. omega arith) (refused (ltb (i .row) row-count) (refusal 2 0) f r))
+    (λ e9. ⊎-elim (λ r. other 9 0 f (λ q. omega arith) (refused (fit (slots (row-of (i .row))) (numbers i)) (refusal 9 0) f r)) (judge-other (i .row) (numbers i) f)
+    (then-refuses (require (fit (slots (row-of (i .row))) (numbers i)) (refusal 9 0)) _ f e9))
+    (then-refuses (require (ltb (i .row) row-count) (refusal 2 0)) _ f e)
+
+pub no-15 : (i : Instruction) (buffer : List ℕ) (f : Refusal) → write i buffer ≡ refuses f → f .number ≢ 15
+unfolding write
+no-15 i buffer f e =
+    ⊎-elim (λ r. other 8 0 f (λ q. omega arith) (refused (eqb (length buffer) 8) (refusal 8 0) f r))
+    (λ e2. ⊎-elim (instruction-other i f) (last (judge-instruction i) refl e2) (then-refuses (judge-instruction i) _ f e2))
+    (then-refuses (require (eqb (length buffer) 8) (refusal 8 0)) _ f e)
+  where
+    last : (o : Outcome Refusal (Unit {0})) → judge-instruction i ≡ o → (judge-instruction i then require (is-record (read-number (word-of i)) i) (refusal 15 0)) ≡ refuses f
+        → require (is-record (read-number (word-of i)) i) (refusal 15 0) ≡ refuses f → f .number ≢ 15
+    last (gives t) q e2 r = never (sym (sym (ap (λ (b : Bool). require b (refusal 15 0)) (never-15 i q)) ∙ r))
+    last (refuses g) q e2 r = instruction-other i f (then-refused-eq q e2)
+      where
+        then-refused-eq : judge-instruction i ≡ refuses g → (judge-instruction i then require (is-record (read-number (word-of i)) i) (refusal 15 0)) ≡ refuses f
+            → judge-instruction i ≡ refuses f
+        then-refused-eq a b = a ∙ sym (then-refused (require (is-record (read-number (word-of i)) i) (refusal 15 0)) a) ∙ b

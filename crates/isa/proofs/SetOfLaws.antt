@@ -3,10 +3,10 @@ use mathlib.Core.Path.{_≡_, refl, ap, sym, _∙_}
 use mathlib.Core.Bool.{Bool, true, false}
 use mathlib.Core.Logic.{⊎-elim}
 use Prim.Native.Nat.{ℕ, zero, suc, _+_, _-_, _*_, _/_, _%_, _^_, _<_, _≤_}
-use native.Mathlib.Nat.{two-pow-succ, add-comm, one-mul, zero-mul, eq-or-lt-of-le, mod-lt}
+use native.Mathlib.Nat.{two-pow-succ, one-mul, zero-mul, eq-or-lt-of-le}
 use native.Mathlib.Omega.{arith}
 use lib.Dec.{eqb}
-use lib.Pow.{pow-pos, high, low, field, mod-mod-pow}
+use lib.Pow.{high, low, field, mod-mod-pow}
 use Rattle.bits.specs.Fields.{choose}
 use Rattle.bits.specs.Sets.{has}
 use Rattle.isa.specs.Table.{set-of}

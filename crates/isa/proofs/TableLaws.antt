@@ -1,18 +1,18 @@
 -- The table of numbers says what the rows say. Assumes nothing.
 use mathlib.Core.Path.{_≡_, refl, ap, sym, _∙_, subst}
-use mathlib.Core.Bool.{Bool, true, false, _&&_, not}
+use mathlib.Core.Bool.{Bool, _&&_}
 use mathlib.Core.List.{List, [], _∷_, _++_, map}
-use Prim.Native.Nat.{ℕ, zero, suc, _+_, _*_, _/_, _%_, _^_, _<_, _≤_}
+use Prim.Native.Nat.{ℕ, zero, suc, _+_, _*_, _/_, _%_, _<_}
 use native.Mathlib.Nat.{not-suc-le-zero, le-of-suc-le-suc}
 use native.Mathlib.Omega.{arith}
 use lib.Dec.{T, eqb, ltb, ltb→lt, eqb→eq}
-use lib.ListN.{length, getD, take, drop, length-append, length-map, length-drop, List·getD-append, List·getD-map}
+use lib.ListN.{length, getD, take, drop, length-append, length-map, length-drop, List·getD-append}
 use lib.Seq.{getD-append-add, take-all}
-use Rattle.bits.specs.Fields.{bits, Slot}
+use Rattle.bits.specs.Fields.{bits}
 use Rattle.bits.proofs.Every.{every, at, and-l, and-r}
-use Rattle.isa.specs.Kinds.{Kind, About, about, width, absent}
+use Rattle.isa.specs.Kinds.{about, width, absent}
 use Rattle.isa.specs.Rows.{Row, rows, row-of, no-row, row-count}
-use Rattle.isa.specs.Layout.{Field, layout, modifier-at, slots, slot-count, slot-of, field-of, kind-of, width-of, low-of, no-field}
+use Rattle.isa.specs.Layout.{Field, layout, modifier-at, slot-count, field-of, kind-of, width-of, low-of, no-field}
 use Rattle.isa.specs.Table.{table, row-words, kind-words, kinds, kind-number, kind-count, packed, low-words, page-word, page-words, legal-set, kinds-at, lows-at, pages-at}
 
 -- the element of a mapped list, inside it, whatever the default

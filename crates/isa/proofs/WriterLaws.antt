@@ -1,31 +1,28 @@
 -- What an instruction gets, by what the writer finds, and when two records are equal. Assumes nothing.
 use mathlib.Core.Path.{_≡_, refl, sym, ap, ap₂, _∙_}
-use mathlib.Core.Bool.{Bool, true, false, _&&_}
+use mathlib.Core.Bool.{Bool, true, false}
 use mathlib.Core.List.{List, [], _∷_}
-use Prim.Native.Nat.{ℕ, zero, suc, _<_, _≤_, _^_}
+use Prim.Native.Nat.{ℕ, suc, _<_, _≤_}
 use native.Mathlib.Omega.{arith}
 use lib.Dec.{T, ltb, eqb}
-use lib.IntN.{ℤ, pos, negsuc}
 use lib.ListN.{length, getD, drop}
 use lib.Seq.{drop-cons, drop-length}
 use borrow.Author.Tests.{lt-ltb, le-ltb, eq-eqb, ne-eqb, ltb-true, eqb-true}
-use Rattle.bits.specs.Fields.{choose, fit}
+use Rattle.bits.specs.Fields.{fit}
 use Rattle.bits.specs.Bytes.{little-bytes}
-use Rattle.bits.specs.Outcomes.{Outcome, gives, refuses, passes, require, _then_}
+use Rattle.bits.specs.Outcomes.{Outcome, refuses, passes, require, _then_}
 use Rattle.bits.proofs.OutcomeLaws.{then-gives, required}
 use Rattle.isa.specs.Rows.{row-of, row-count}
 use Rattle.isa.specs.Layout.{slots}
 use Rattle.isa.specs.Instructions.{numbers, word-of}
 use Rattle.isa.specs.Legality.{judge}
 use Rattle.isa.specs.Reader.{read-number}
-use Rattle.isa.specs.Writer.{judge-instruction, fields, same-list, same-offset, same, is-record, write, stored, kept-or}
-use Rattle.isa.specs.Answers.{refusal, reading, writing, judging}
+use Rattle.isa.specs.Writer.{judge-instruction, fields, same-list, same-offset, same, is-record, write, stored}
+use Rattle.isa.specs.Answers.{refusal, judging}
 use Rattle.isa.specs.declared.instruction.Instruction.{Instruction}
 use Rattle.isa.specs.declared.answer.Refusal.{Refusal}
 use Rattle.isa.specs.declared.answer.Legality.{Legality}
 use Rattle.isa.specs.declared.answer.Legality.the-variants.{Legal, Illegal}
-use Rattle.isa.specs.declared.answer.Reading.{Reading}
-use Rattle.isa.specs.declared.answer.Reading.the-variants as read
 use Rattle.isa.proofs.RowLaws.{both}
 use Rattle.isa.proofs.OffsetLaws.{offset-same, offset-eq}
 

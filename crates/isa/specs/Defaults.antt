@@ -1,6 +1,5 @@
 -- The default instruction of a row (the paper's fresh record): "page 0, flow 0, destination full r0 where it has one, every source r0
 -- plain, H = 2, W16 = 2, mux = 1, all else 0."
-use mathlib.Core.Bool.{Bool, true, false}
 use Prim.Native.Nat.{ℕ}
 use lib.Dec.{ltb}
 use lib.IntN.{pos}

@@ -1,5 +1,4 @@
 -- Decoded instructions (the paper's records) and the numbers of their words.
-use mathlib.Core.Bool.{Bool, true, false}
 use mathlib.Core.List.{List, [], _∷_}
 use Prim.Native.Nat.{ℕ, _-_}
 use lib.Dec.{ltb, eqb}

@@ -1,14 +1,13 @@
 -- Where the fields of a row stand in its word (paper 01, "The frame"). Every row has the same list of places, ordered by lowest bit; a
 -- row only decides what stands there, and what is absent has no bits.
-use mathlib.Core.Path.{_≡_}
 use mathlib.Core.Bool.{Bool, true, false, _&&_}
 use mathlib.Core.List.{List, [], _∷_, map}
-use Prim.Native.Nat.{ℕ, _+_, _*_}
+use Prim.Native.Nat.{ℕ, _*_}
 use lib.Dec.{ltb, eqb}
 use lib.ListN.{getD}
-use Rattle.bits.specs.Fields.{Slot, slot, bits, choose}
+use Rattle.bits.specs.Fields.{Slot, slot, bits}
 use Rattle.isa.specs.Kinds.{Kind, width, absent, source, offset, second, register, half-mask, opcode, page, flow}
-use Rattle.isa.specs.Rows.{Row, Modifier, rows, row-of, no-row}
+use Rattle.isa.specs.Rows.{Row, Modifier, row-of, no-row}
 
 -- a place in the word: its lowest bit, and what stands there
 pub record Field : Type 0 where

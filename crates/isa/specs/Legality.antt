@@ -1,8 +1,8 @@
 -- What is legal, for reading and for writing (paper 01, refusals 4 to 7).
-use mathlib.Core.Bool.{Bool, true, false, _&&_, not}
+use mathlib.Core.Bool.{Bool, _&&_, not}
 use mathlib.Core.List.{List, [], _∷_}
 use Prim.Native.Nat.{ℕ, suc, _/_}
-use lib.Dec.{ltb, leb, eqb}
+use lib.Dec.{leb, eqb}
 use lib.ListN.{getD}
 use Rattle.bits.specs.Fields.{choose}
 use Rattle.bits.specs.Outcomes.{Outcome, require, _then_}

@@ -1,7 +1,7 @@
 -- The names of the rows, as the lister writes them.
 use mathlib.Core.List.{List, [], _∷_, _++_, map}
-use Prim.Native.Nat.{ℕ, zero, suc, _-_}
-use Prim.Native.Char.{Char, code}
+use Prim.Native.Nat.{ℕ, suc, _-_}
+use Prim.Native.Char.{code}
 use Prim.Native.String.{String, [] as empty, _∷_ as letter}
 use lib.Dec.{eqb}
 use lib.ListN.{length, replicate}

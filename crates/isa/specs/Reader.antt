@@ -1,10 +1,10 @@
 -- Reading a word: "Reading order: 1, 2, 3, 4, 5, 6, 7."
-use mathlib.Core.Bool.{Bool, true, false, _&&_, not}
+use mathlib.Core.Bool.{Bool, _&&_, not}
 use mathlib.Core.List.{List, [], _∷_}
 use Prim.Native.Nat.{ℕ, suc}
 use lib.Dec.{ltb, leb, eqb}
 use lib.ListN.{length}
-use Rattle.bits.specs.Fields.{bits, choose, Slot, assigned}
+use Rattle.bits.specs.Fields.{choose, assigned}
 use Rattle.bits.specs.Bytes.{little}
 use Rattle.bits.specs.Sets.{has, lowest-from}
 use Rattle.bits.specs.Outcomes.{Outcome, gives, require, _then_}

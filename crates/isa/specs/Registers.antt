@@ -1,5 +1,5 @@
 -- What an instruction does to registers and where it goes (paper 01, "How registers are held"), for any record.
-use mathlib.Core.Bool.{Bool, true, false, _&&_}
+use mathlib.Core.Bool.{Bool, _&&_}
 use Prim.Native.Nat.{ℕ, _%_, _^_}
 use lib.Dec.{ltb, leb, eqb}
 use Rattle.bits.specs.Fields.{choose}

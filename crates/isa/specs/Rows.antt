@@ -6,7 +6,7 @@ use Prim.Native.String.{String}
 use lib.Dec.{leb, eqb}
 use lib.ListN.{getD}
 use Rattle.bits.specs.Fields.{choose}
-use Rattle.isa.specs.Kinds.{Kind, _to_, within, absent, flag, two-bits, widen, swizzle-half, swizzle-32, swizzle-16, swizzle-8, half-swizzle, condition, integer-condition, mux, combine, nan-mode}
+use Rattle.isa.specs.Kinds.{Kind, _to_, within, flag, two-bits, widen, swizzle-half, swizzle-32, swizzle-16, swizzle-8, half-swizzle, condition, integer-condition, mux, combine, nan-mode}
 
 -- a modifier: its lowest bit, which names it, and its kind
 pub record Modifier : Type 0 where

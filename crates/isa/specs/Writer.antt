@@ -5,7 +5,7 @@ use Prim.Native.Nat.{ℕ}
 use lib.Dec.{ltb, eqb}
 use lib.IntN.{ℤ, pos, negsuc}
 use lib.ListN.{length}
-use Rattle.bits.specs.Fields.{choose, fit}
+use Rattle.bits.specs.Fields.{fit}
 use Rattle.bits.specs.Bytes.{little-bytes}
 use Rattle.bits.specs.Outcomes.{Outcome, gives, refuses, require, _then_}
 use Rattle.isa.specs.Rows.{row-of, row-count}

@@ -1,4 +1,4 @@
-use mathlib.Core.Path.{_≡_, ap, subst⁻¹}
+use mathlib.Core.Path.{ap, subst⁻¹}
 use Prim.Native.Nat.{ℕ, _%_, _/_, _^_, _<_}
 use native.Mathlib.Nat.{mod-lt}
 use native.Mathlib.Omega.{arith}

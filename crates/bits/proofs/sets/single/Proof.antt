@@ -1,4 +1,3 @@
-use mathlib.Core.Path.{_∙_, sym}
 use borrow.Author.Tests.{lt-ltb, le-ltb}
 use Rattle.bits.proofs.FieldLaws.{one-shl}
 use borrow.Author.Needs.{needs}

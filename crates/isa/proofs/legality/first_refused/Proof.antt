@@ -1,12 +1,10 @@
-use mathlib.Core.Path.{_≡_, refl, sym, ap, _∙_}
-use mathlib.Core.Bool.{Bool, true, false, not}
-use mathlib.Core.List.{List}
-use Prim.Native.Nat.{ℕ, zero, suc, _+_, _-_, _*_, _/_, _%_, _^_, _<_, _≤_}
+use mathlib.Core.Path.{_≡_, refl, sym, _∙_}
+use Prim.Native.Nat.{ℕ, _-_, _^_, _<_, _≤_}
 use native.Mathlib.Omega.{arith}
-use lib.ListN.{length, getD, drop}
+use lib.ListN.{getD, drop}
 use native.Mathlib.Numerals.{add-one}
 use borrow.Author.Needs.{needs}
-use Rattle.bits.proofs.FieldLaws.{Fit, fit-rule, fit-at}
+use Rattle.bits.proofs.FieldLaws.{fit-rule, fit-at}
 use Rattle.isa.specs.Rows.{row-of}
 use Rattle.isa.specs.Layout.{layout, slots, slot-count, slot-of, no-field, width-of, at-page}
 use Rattle.isa.specs.Legality.{scan, first-refused}

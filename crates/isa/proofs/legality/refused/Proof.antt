@@ -1,16 +1,12 @@
-use mathlib.Core.Path.{_≡_, refl, sym, ap, _∙_}
-use mathlib.Core.Bool.{Bool, true, false, not}
-use mathlib.Core.List.{List}
-use Prim.Native.Nat.{ℕ, zero, suc, _+_, _-_, _*_, _/_, _%_, _^_, _<_, _≤_}
+use mathlib.Core.Path.{sym, ap, _∙_}
+use Prim.Native.Nat.{ℕ, _<_}
 use native.Mathlib.Omega.{arith}
-use lib.ListN.{length, getD, drop}
 use native.Mathlib.Nat.{lt-of-lt-of-le}
 use lib.Dec.{eqb}
 use lib.Pow.{pow-mono}
 use Rattle.bits.specs.Fields.{bits}
 use Rattle.isa.specs.Kinds.{about, within}
 use Rattle.isa.specs.Layout.{field-of, kind-of}
-use Rattle.isa.specs.Table.{legal-set}
 use Rattle.isa.proofs.RowLaws.{width-narrow, width-source}
 use Rattle.isa.proofs.SetOfLaws.{has-set-of}
 use Rattle.isa.proofs.LegalityLaws.{other-number, refused-source, refused-other}

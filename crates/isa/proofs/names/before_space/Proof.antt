@@ -1,9 +1,9 @@
 use native.Mathlib.Nat.{zero-add}
-use mathlib.Core.Path.{_≡_, sym, ap, _∙_}
-use Prim.Native.Nat.{ℕ, suc, _+_, _-_, _≤_, _<_}
+use mathlib.Core.Path.{_≡_}
+use Prim.Native.Nat.{suc, _+_, _-_, _≤_}
 use native.Mathlib.Numerals.{add-one}
 use native.Mathlib.Omega.{arith}
-use lib.ListN.{length, drop}
+use lib.ListN.{drop}
 use Rattle.isa.specs.Names.{before-space, name-width}
 use Rattle.isa.proofs.NameLaws.{space-here, no-space, space-end}
 use Rattle.isa.proofs.names.before_space.Statement.{statement}

@@ -1,10 +1,9 @@
-use mathlib.Core.Path.{_≡_, sym, ap, _∙_}
+use mathlib.Core.Path.{sym, ap, _∙_}
 use mathlib.Core.List.{List, []}
 use Prim.Native.Nat.{ℕ}
 use lib.ListN.{getD, length}
 use Rattle.isa.specs.Rows.{Row}
 use Rattle.isa.specs.Names.{ascii, padded, name}
-use Rattle.isa.specs.declared.names.Name.{Name}
 use Rattle.isa.proofs.NameLaws.{name-in, name-there, no-name}
 use borrow.Author.Needs.{needs}
 use Rattle.isa.proofs.names.of_row.Statement.{statement}

@@ -1,12 +1,7 @@
 use mathlib.Core.Path.{sym, ap}
 use Rattle.isa.specs.Answers.{judged}
 use Rattle.isa.specs.declared.answer.Legality.{Legality}
-use mathlib.Core.Path.{_≡_, refl, sym, ap, _∙_}
-use mathlib.Core.Bool.{Bool, true, false, not}
-use mathlib.Core.List.{List}
-use Prim.Native.Nat.{ℕ, zero, suc, _+_, _-_, _*_, _/_, _%_, _^_, _<_, _≤_}
-use native.Mathlib.Omega.{arith}
-use lib.ListN.{length, getD, drop}
+use mathlib.Core.Path.{sym, ap}
 use borrow.Author.Needs.{needs}
 use Rattle.isa.proofs.reader.judged.Statement.{statement}
 use Rattle.isa.proofs.reader.judged.Tie as tie

@@ -1,10 +1,4 @@
-use mathlib.Core.Path.{_≡_, _∙_, ap, sym}
-use native.Mathlib.Omega.{arith}
-use mir.Syntax.{w32}
-use mir.Val.{toZ, ofZ}
-use mir.ValLaws.{toZ-ofZ}
-use Rattle.isa.specs.Instructions.{offset-number, offset-of}
-use Rattle.isa.proofs.OffsetLaws.{above, above-number, above-range, Below, below, below-range, flipped-fits, flipped-abs, of-small, of-large, of-large-eq}
+use Rattle.isa.proofs.OffsetLaws.{of-small, of-large, of-large-eq}
 use borrow.Author.Needs.{needs}
 use Rattle.isa.proofs.reader.offset_of.Statement.{statement}
 use Rattle.isa.proofs.reader.offset_of.Tie as tie

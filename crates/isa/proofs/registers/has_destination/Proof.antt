@@ -1,10 +1,8 @@
-use mathlib.Core.Path.{_≡_, sym, ap, ap₂, _∙_}
-use borrow.Author.Tests.{le-leb, lt-leb, not-true, not-false, eq-eqb, ne-eqb}
+use mathlib.Core.Path.{sym, _∙_}
+use borrow.Author.Tests.{le-leb, lt-leb}
 use Rattle.isa.proofs.RegisterLaws.{ranged}
 use Rattle.isa.proofs.registers.has_destination.Statement.{statement}
 use Rattle.isa.proofs.registers.has_destination.Tie as tie
-use Rattle.isa.proofs.registers.has_destination.Reads as reads
-use Rattle.isa.proofs.registers.has_destination.Lts as lts
 
 returns : tie.Need-returns
 returns c = let k = c .before .args .row in sym (ranged k .destination ∙ rw (le-leb 3 k (c .if1 .taken)))

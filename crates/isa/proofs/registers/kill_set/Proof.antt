@@ -7,10 +7,6 @@ use Rattle.isa.proofs.RegisterLaws.{set-lt, kill-law}
 use borrow.Author.Needs.{needs}
 use Rattle.isa.proofs.registers.kill_set.Statement.{statement}
 use Rattle.isa.proofs.registers.kill_set.Tie as tie
-use Rattle.isa.proofs.registers.kill_set.Reads as reads
-use Rattle.isa.proofs.registers.kill_set.Lts as lts
-use Rattle.bits.proofs.bytes.wide.Reads as wide-reads
-use Rattle.isa.proofs.registers.read_set.Reads as read-set-reads
 
 read-set-requires : tie.Need-read-set-requires
 read-set-requires c κs = search needs

@@ -1,12 +1,8 @@
-use mathlib.Core.Path.{_≡_, sym, ap, ap₂, _∙_}
 use native.Mathlib.Omega.{arith}
 use Rattle.isa.proofs.RegisterLaws.{read-small, read-law}
 use borrow.Author.Needs.{needs}
 use Rattle.isa.proofs.registers.read_set.Statement.{statement}
 use Rattle.isa.proofs.registers.read_set.Tie as tie
-use Rattle.isa.proofs.registers.read_set.Reads as reads
-use Rattle.isa.proofs.registers.read_set.Lts as lts
-use Rattle.bits.proofs.bytes.wide.Reads as wide-reads
 
 add-result : tie.Need-add-result
 add-result c = search needs

@@ -1,10 +1,8 @@
-use mathlib.Core.Path.{_≡_, sym, ap, ap₂, _∙_}
+use mathlib.Core.Path.{_≡_, sym, ap, _∙_}
 use native.Mathlib.Omega.{arith}
 use Rattle.isa.proofs.RegisterLaws.{count-by, ranged, count-one, count-two, count-three, count-four, count-none}
 use Rattle.isa.proofs.registers.source_count.Statement.{statement}
 use Rattle.isa.proofs.registers.source_count.Tie as tie
-use Rattle.isa.proofs.registers.source_count.Reads as reads
-use Rattle.isa.proofs.registers.source_count.Lts as lts
 
 returns : tie.Need-returns
 returns c = let k = c .before .before .before .args .row in (sym (ranged k .sources ∙ count-four k (omega arith) (omega arith)), omega arith)

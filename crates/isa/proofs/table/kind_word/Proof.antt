@@ -1,8 +1,7 @@
-use mathlib.Core.Path.{_≡_, refl, sym, ap, _∙_}
-use Prim.Native.Nat.{ℕ, _+_, _*_, _/_, _%_, _^_, _<_}
+use mathlib.Core.Path.{ap, _∙_}
+use Prim.Native.Nat.{ℕ, _+_}
 use mathlib.Core.List.{List, []}
 use lib.ListN.{getD}
-use native.Mathlib.Omega.{arith}
 use Rattle.isa.specs.Table.{kinds-at}
 use Rattle.isa.proofs.TableLaws.{kind-line}
 use borrow.Author.Needs.{needs}

@@ -1,8 +1,6 @@
-use mathlib.Core.Path.{_≡_, refl, sym, ap, _∙_}
-use Prim.Native.Nat.{ℕ, _+_, _*_, _/_, _%_, _^_, _<_}
-use mathlib.Core.List.{List, []}
+use mathlib.Core.Path.{ap, _∙_}
+use Prim.Native.Nat.{ℕ}
 use lib.ListN.{getD}
-use native.Mathlib.Omega.{arith}
 use Rattle.isa.specs.Kinds.{absent}
 use Rattle.isa.specs.Table.{kinds, kind-words}
 use Rattle.isa.proofs.TableLaws.{kinded}

@@ -1,8 +1,7 @@
-use mathlib.Core.Path.{_≡_, refl, sym, ap, _∙_}
-use Prim.Native.Nat.{ℕ, _+_, _*_, _/_, _%_, _^_, _<_}
+use mathlib.Core.Path.{ap, _∙_}
+use Prim.Native.Nat.{ℕ}
 use mathlib.Core.List.{List, []}
 use lib.ListN.{getD}
-use native.Mathlib.Omega.{arith}
 use Rattle.isa.proofs.TableLaws.{row-line}
 use borrow.Author.Needs.{needs}
 use Rattle.isa.proofs.table.row_word.Statement.{statement}

@@ -1,4 +1,4 @@
-use mathlib.Core.Path.{_≡_, sym, ap, _∙_}
+use mathlib.Core.Path.{sym, ap, _∙_}
 use Rattle.isa.specs.Answers.{reading}
 use Rattle.isa.specs.Writer.{is-record}
 use Rattle.isa.specs.declared.answer.Reading.{Reading}

@@ -1,16 +1,13 @@
-use mathlib.Core.Path.{_≡_, refl, sym, ap, _∙_}
-use mathlib.Core.Bool.{Bool, true, false, not}
-use mathlib.Core.List.{List}
-use Prim.Native.Nat.{ℕ, zero, suc, _+_, _-_, _*_, _/_, _%_, _^_, _<_, _≤_}
+use mathlib.Core.Path.{_≡_}
+use Prim.Native.Nat.{ℕ, _+_, _-_, _*_, _^_, _<_, _≤_}
 use native.Mathlib.Omega.{arith}
-use lib.ListN.{length, getD, drop}
+use lib.ListN.{getD, drop}
 use native.Mathlib.Numerals.{add-one}
 use borrow.Author.Needs.{needs}
 use native.Mathlib.Nat.{zero-add}
-use lib.Dec.{T}
-use Rattle.bits.specs.Fields.{join, fit}
+use Rattle.bits.specs.Fields.{join}
 use Rattle.bits.proofs.FieldLaws.{join-lt, join-step, join-end, fit-rule}
-use Rattle.isa.specs.Rows.{row-of, row-count}
+use Rattle.isa.specs.Rows.{row-of}
 use Rattle.isa.specs.Layout.{slots, slot-count, slot-of, no-field, low-of}
 use Rattle.isa.proofs.RowLaws.{row-apart, slots-length, slot-low}
 use Rattle.isa.proofs.writer.join_numbers.Statement.{statement}

@@ -1,10 +1,10 @@
-use mathlib.Core.Path.{_≡_, _∙_, ap, sym}
+use mathlib.Core.Path.{_∙_, ap}
 use native.Mathlib.Omega.{arith}
 use mir.Syntax.{w32}
 use mir.Val.{toZ, ofZ}
 use mir.ValLaws.{toZ-ofZ}
-use Rattle.isa.specs.Instructions.{offset-number, offset-of}
-use Rattle.isa.proofs.OffsetLaws.{above, above-number, above-range, Below, below, below-range, flipped-fits, flipped-abs, of-small, of-large, of-large-eq}
+use Rattle.isa.specs.Instructions.{offset-number}
+use Rattle.isa.proofs.OffsetLaws.{above, above-number, above-range, below, below-range, flipped-fits, flipped-abs}
 use Rattle.isa.proofs.writer.offset_number.Statement.{statement}
 use Rattle.isa.proofs.writer.offset_number.Tie as tie
 

@@ -1,7 +1,5 @@
 use Rattle.isa.specs.Writer.{same-list}
-use mathlib.Core.Path.{_∙_, ap}
-use mir.Syntax.{w32}
-use mir.Val.{SFits}
+use mathlib.Core.Path.{_∙_}
 use Rattle.isa.proofs.OffsetLaws.{offset-bits}
 use Rattle.isa.proofs.WriterLaws.{same-fields, other-fields}
 use borrow.Author.Needs.{needs}

@@ -1,10 +1,10 @@
-use mathlib.Core.Path.{_≡_, sym, ap, _∙_, subst}
+use mathlib.Core.Path.{sym, ap, _∙_, subst}
 use mathlib.Core.List.{List}
 use Prim.Native.Nat.{ℕ}
 use denote.Ref.{now}
 use lib.Dec.{T}
 use Rattle.bits.specs.Fields.{fit, join}
-use Rattle.bits.specs.Outcomes.{Outcome, passes}
+use Rattle.bits.specs.Outcomes.{Outcome}
 use Rattle.isa.specs.Rows.{row-of}
 use Rattle.isa.specs.Layout.{slots}
 use Rattle.isa.specs.Answers.{judging}

@@ -4,10 +4,6 @@ use Rattle.isa.proofs.RegisterLaws.{no-destination, half-write, full-wr
 use borrow.Author.Needs.{needs}
 use Rattle.isa.proofs.instruction.Instruction.defines.Statement.{statement}
 use Rattle.isa.proofs.instruction.Instruction.defines.Tie as tie
-use Rattle.isa.proofs.instruction.Instruction.defines.Reads as reads
-use Rattle.isa.proofs.instruction.Instruction.defines.Lts as lts
-use Rattle.bits.proofs.sets.single.Reads as single-reads
-use Rattle.isa.proofs.registers.has_destination.Reads as has-destination-reads
 
 has-destination-requires : tie.Need-has-destination-requires
 has-destination-requires c κs = search needs

@@ -1,14 +1,10 @@
-use mathlib.Core.Path.{_≡_, sym, ap, ap₂, _∙_}
+use mathlib.Core.Path.{ap₂, _∙_}
 use Rattle.isa.specs.Registers.{kills, kills-register}
 use Rattle.bits.specs.Sets.{union}
 use Rattle.isa.proofs.RegisterLaws.{counted}
 use borrow.Author.Needs.{needs}
 use Rattle.isa.proofs.instruction.Instruction.kills.Statement.{statement}
 use Rattle.isa.proofs.instruction.Instruction.kills.Tie as tie
-use Rattle.isa.proofs.instruction.Instruction.kills.Reads as reads
-use Rattle.isa.proofs.instruction.Instruction.kills.Lts as lts
-use Rattle.isa.proofs.registers.kill_set.Reads as kill-set-reads
-use Rattle.isa.proofs.registers.source_count.Reads as source-count-reads
 
 source-count-requires : tie.Need-source-count-requires
 source-count-requires c κs = search needs

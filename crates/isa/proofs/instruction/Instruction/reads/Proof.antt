@@ -1,4 +1,4 @@
-use mathlib.Core.Path.{_≡_, sym, ap, ap₂, _∙_}
+use mathlib.Core.Path.{ap₂, _∙_}
 use Rattle.isa.specs.Registers.{reads, reads-register}
 use Rattle.bits.specs.Sets.{union}
 use Rattle.isa.proofs.RegisterLaws.{counted}
@@ -6,9 +6,6 @@ use borrow.Author.Needs.{needs}
 use Rattle.isa.proofs.instruction.Instruction.reads.Statement.{statement}
 use Rattle.isa.proofs.instruction.Instruction.reads.Tie as tie
 use Rattle.isa.proofs.instruction.Instruction.reads.Reads as reads
-use Rattle.isa.proofs.instruction.Instruction.reads.Lts as lts
-use Rattle.isa.proofs.registers.read_set.Reads as read-set-reads
-use Rattle.isa.proofs.registers.source_count.Reads as source-count-reads
 
 source-count-requires : tie.Need-source-count-requires
 source-count-requires c κs = search needs
