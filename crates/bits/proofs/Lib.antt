@@ -3,3 +3,4 @@ pub mod FieldLaws
 pub mod ByteLaws
 pub mod SetLaws
 pub mod OutcomeLaws
+pub mod SignedLaws

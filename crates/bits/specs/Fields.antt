@@ -26,7 +26,7 @@ unfoldable pub split : List Slot → ℕ → List ℕ
 split [] w = []
 split (s ∷ ss) w = bits w (s .low) (s .width) ∷ split ss w
 
--- the word with these numbers at the slots, and 0 elsewhere
+-- the word with these numbers at the slots, and 0 elsewhere, where the numbers have room and the slots stand apart
 unfoldable pub join : List Slot → List ℕ → ℕ
 join [] vs = 0
 join (s ∷ ss) [] = 0

@@ -2,3 +2,4 @@ pub mod Fields
 pub mod Bytes
 pub mod Sets
 pub mod Outcomes
+pub mod Signed

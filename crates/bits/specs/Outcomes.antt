@@ -1,4 +1,4 @@
--- Demand 1: every call ends with what it gives or with one numbered refusal from the rules, in their order.
+-- Demand 1: "every call ends with a record, a word, an opened parcel, a verdict or one numbered refusal from the rules, in their order."
 use mathlib.Core.Bool.{Bool, true, false}
 
 -- what a call ends with: a value, or a refusal. R says what a refusal tells: its number, and with it a place, or more.

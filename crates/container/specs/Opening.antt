@@ -12,7 +12,8 @@ use Rattle.container.specs.declared.header.Opening.{Opening}
 use Rattle.container.specs.declared.header.Opening.the-variants.{Opened, Refused}
 use Rattle.container.specs.Container.{part, header-length, annotation-length, most-instructions, version, marked, version-of, zero-of, count-of, entry-of, annotations-start, container-length}
 
--- the outcome that each answer of opening stands for: a header, or the paper's number
+-- the outcome that each answer of opening stands for: a header, or the paper's number. The place of these refusals is always 0, and not
+-- carried.
 abbrev pub opening-outcome : Opening → Outcome ℕ Header
 opening-outcome (Opened h) = gives h
 opening-outcome (Refused r) = refuses r

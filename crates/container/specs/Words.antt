@@ -10,7 +10,7 @@ use Rattle.container.specs.declared.view.Fetched.the-variants.{Word, Mis
 use Rattle.container.specs.Container.{number, word-length, word-start}
 use Rattle.container.specs.Opening.{open-outcome}
 
--- the outcome that each answer stands for: a word, or the paper's number
+-- the outcome that each answer stands for: a word, or the paper's number. The place of the refusal is always 0, and not carried.
 abbrev pub fetched-outcome : Fetched → Outcome ℕ ℕ
 fetched-outcome (Word w) = gives w
 fetched-outcome (Missing r) = refuses r

@@ -25,7 +25,7 @@ const WRONG_COUNT: u8 = 12;
 
 const WRONG_LENGTH: u8 = 12;
 
-// How many instructions there are, and the set of registers that are defined before the first.
+// How many instructions there are, and the entry set: the registers that are defined before the first.
 pub struct Header {
     pub count: usize,
     pub entry: u64,

@@ -24,7 +24,8 @@ use Rattle.isa.specs.Answers.{refusal}
 use Rattle.isa.specs.Demand2.{Allowed, Each, Destined, Sourced, InRange, Offset}
 use Rattle.isa.specs.declared.instruction.Instruction.{Instruction}
 use Rattle.isa.proofs.TableLaws.{in-table, layout-length}
-use Rattle.isa.proofs.OffsetLaws.{offset-back}
+use Rattle.bits.specs.Signed.{unsigned, signed}
+use Rattle.bits.proofs.SignedLaws.{back-again}
 
 clash : {A : Type 0} → true ≡ false → A
 clash e = let z : _≡_ {A = ℕ} 0 1 = cc in absurd (omega arith)
@@ -343,12 +344,12 @@ second-room k p h = go (eqb (row-of k .second-low) p)
 -- ---- offsets
 
 range-room : (z : ℤ) → InRange z → offset-number z < 2 ^ 27
-unfolding offset-number
+unfolding unsigned
 range-room (pos n) h = rw (lt-ltb n 67108864 h) (omega arith)
 range-room (negsuc n) h = rw (lt-ltb n 67108864 h) (omega arith)
 
 room-range : (z : ℤ) → offset-number z < 2 ^ 27 → InRange z
-unfolding offset-number
+unfolding unsigned
 room-range (pos n) h = go (ltb n 67108864) refl h
   where
     go : (t : Bool) → ltb n 67108864 ≡ t → choose t n 134217728 < 2 ^ 27 → n < 67108864
@@ -361,16 +362,16 @@ room-range (negsuc n) h = go (ltb n 67108864) refl h
     go false e l = absurd (omega arith)
 
 pub offset-room : (t : Bool) (z : ℤ) → Offset t z → offset-number z < 2 ^ width (where-has t offset)
-unfolding offset-number
+unfolding unsigned
 offset-room true z h = range-room z h
 offset-room false z h = rw h (omega arith)
 
 pub room-offset : (t : Bool) (z : ℤ) → offset-number z < 2 ^ width (where-has t offset) → Offset t z
-unfolding offset-of
+unfolding signed
 room-offset true z h = room-range z h
 room-offset false z h =
     let e : offset-number z ≡ 0 = omega arith in
-    sym (offset-back z (omega (arith, e))) ∙ ap offset-of e
+    sym (back-again 67108864 (omega arith) z (omega (arith, e))) ∙ ap offset-of e
 
 -- ---- sources and destinations
 

@@ -10,7 +10,8 @@ use Rattle.bits.specs.Outcomes.{Outcome, gives, refuses, passes, _then_}
 use Rattle.isa.specs.Rows.{Row, rows, no-row, row-count}
 use Rattle.isa.specs.Layout.{layout, modifier-at}
 use Rattle.isa.specs.Sources.{meaning}
-use Rattle.isa.specs.Instructions.{offset-number, numbers}
+use Rattle.bits.specs.Signed.{unsigned}
+use Rattle.isa.specs.Instructions.{numbers}
 use Rattle.isa.specs.Legality.{scan, judge}
 use Rattle.isa.specs.Reader.{read}
 use Rattle.isa.specs.Writer.{judge-instruction, write, stored}
@@ -35,7 +36,7 @@ test : ℕ → Row → Bool
 test k r = passing (judge-instruction (default-instruction k))
 
 all-legal : T (every test 0 rows)
-unfolding test passing judge-instruction _then_ judge scan numbers offset-number fit rows layout modifier-at meaning
+unfolding test passing judge-instruction _then_ judge scan numbers unsigned fit rows layout modifier-at meaning
 all-legal = tt
 
 module _ (k : ℕ) (h : k < row-count) where

@@ -30,7 +30,7 @@ use Rattle.isa.specs.declared.answer.Legality.{Legality}
 use Rattle.isa.specs.declared.answer.Legality.the-variants.{Legal, Illegal}
 use Rattle.isa.proofs.TableLaws.{in-table}
 use Rattle.isa.proofs.RowLaws.{row-apart, opcode-there, second-there, width-le}
-use Rattle.isa.proofs.OffsetLaws.{offset-there}
+use Rattle.bits.proofs.SignedLaws.{there}
 
 -- ---- does a word fit a row
 
@@ -111,7 +111,7 @@ pub numbers-split : (k w : ℕ) → k < row-count → fits (row-of k) w ≡ true
 unfolding numbers split layout
 numbers-split k w h e =
     let s = second-there (row-of k) w e in
-    let z = offset-there (number-in k w at-offset)
+    let z = there 67108864 (omega arith) (number-in k w at-offset)
     (lt-of-lt-of-le (mod-lt _ (pow-pos (width-of k at-offset))) (pow-mono (width-le k at-offset h (omega arith)))) in
     λ j. listing (instruction-of k w) (z j) (second-eq (row-of k) w 16 s j) (second-eq (row-of k) w 24 s j) (sym (opcode-there (row-of k) w e) j)
 

@@ -27,7 +27,7 @@ use Rattle.isa.specs.Answers.{refusal}
 use Rattle.isa.specs.declared.instruction.Instruction.{Instruction}
 use Rattle.isa.specs.declared.answer.Refusal.{Refusal}
 use Rattle.isa.proofs.RowLaws.{row-apart, one-row, secondary, width-le, slots-length, slot-width}
-use Rattle.isa.proofs.OffsetLaws.{offset-back}
+use Rattle.bits.proofs.SignedLaws.{back-again}
 use Rattle.isa.proofs.ReaderLaws.{find-below, find-fits, numbers-split, numbers-fit, clean-stray, stray-le, join-of-clean}
 use Rattle.isa.proofs.WriterLaws.{legal-row, legal-fit, legal-numbers, is-true, same-refl}
 
@@ -93,7 +93,7 @@ module _ (i : Instruction) (legal : judge-instruction i ≡ passes) where
   unfolding split layout numbers
   offset-there =
       ap (λ (l : List ℕ). offset-of (getD l at-offset 0)) taken-apart
-      ∙ offset-back (i .offset) (lt-of-lt-of-le
+      ∙ back-again 67108864 (omega arith) (i .offset) (lt-of-lt-of-le
       (rw (slot-width (i .row) at-offset) at (fit-at fitting at-offset (slot-of no-field) (rw (slots-length (row-of (i .row))) (omega arith))))
       (pow-mono (width-le (i .row) at-offset on-table (omega arith))))
 

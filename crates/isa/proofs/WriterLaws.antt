@@ -3,10 +3,11 @@ use mathlib.Core.Path.{_≡_, refl, sym, ap, ap₂, _∙_}
 use mathlib.Core.Bool.{Bool, true, false}
 use mathlib.Core.List.{List, [], _∷_}
 use Prim.Native.Nat.{ℕ, suc, _<_, _≤_}
+use native.Mathlib.Nat.{le-of-eq}
 use native.Mathlib.Omega.{arith}
 use lib.Dec.{T, ltb, eqb}
-use lib.ListN.{length, getD, drop}
-use lib.Seq.{drop-cons, drop-length}
+use lib.ListN.{length, getD, drop, drop-of-length-le}
+use lib.Seq.{drop-cons}
 use borrow.Author.Tests.{lt-ltb, le-ltb, eq-eqb, ne-eqb, ltb-true, eqb-true}
 use Rattle.bits.specs.Fields.{fit}
 use Rattle.bits.specs.Bytes.{little-bytes}
@@ -76,23 +77,26 @@ module _ (xs ys : List ℕ) (i : ℕ) (hx : i < length xs) (hy : i < length ys) 
   unfolding same-list
   same-miss n = rw (drop-cons xs i 0 hx, drop-cons ys i 0 hy, ne-eqb _ _ n)
 
-pub same-end : (xs ys : List ℕ) (i : ℕ) → length xs ≡ i → same-list (drop i xs) (drop i ys) ≡ true
+pub same-end : (xs ys : List ℕ) (i : ℕ) → length xs ≡ i → length ys ≡ i → same-list (drop i xs) (drop i ys) ≡ true
 unfolding same-list
-same-end xs ys i e = rw (← e, drop-length xs)
+same-end xs ys i e f = rw (drop-of-length-le xs (le-of-eq e), drop-of-length-le ys (le-of-eq f))
 
 same-self : (xs : List ℕ) → same-list xs xs ≡ true
 unfolding same-list
 same-self [] = refl
 same-self (x ∷ xs) = rw (eq-eqb x x refl) (same-self xs)
 
-list-eq : (xs ys : List ℕ) → length xs ≡ length ys → same-list xs ys ≡ true → xs ≡ ys
+no : {A : Type 0} → false ≡ true → A
+no e = let z : _≡_ {A = ℕ} 0 1 = cc in absurd (omega arith)
+
+list-eq : (xs ys : List ℕ) → same-list xs ys ≡ true → xs ≡ ys
 unfolding same-list
-list-eq [] [] l e = refl
-list-eq [] (y ∷ ys) l e = absurd (omega arith)
-list-eq (x ∷ xs) [] l e = absurd (omega arith)
-list-eq (x ∷ xs) (y ∷ ys) l e =
+list-eq [] [] e = refl
+list-eq [] (y ∷ ys) e = no e
+list-eq (x ∷ xs) [] e = no e
+list-eq (x ∷ xs) (y ∷ ys) e =
     let t = both (eqb x y) (same-list xs ys) e in
-    ap₂ (λ (a : ℕ) (l : List ℕ). a ∷ l) (eqb-true x y (t .0)) (list-eq xs ys (omega arith) (t .1))
+    ap₂ (λ (a : ℕ) (l : List ℕ). a ∷ l) (eqb-true x y (t .0)) (list-eq xs ys (t .1))
 
 -- ---- `same` is equality of records
 
@@ -104,7 +108,7 @@ pub same-eq : (a b : Instruction) → same a b ≡ true → a ≡ b
 unfolding same
 same-eq a b e =
     let t = both (same-list (fields a) (fields b)) (same-offset (a .offset) (b .offset)) e in
-    let l = list-eq (fields a) (fields b) refl (t .0) in
+    let l = list-eq (fields a) (fields b) (t .0) in
     let o = offset-eq (a .offset) (b .offset) (t .1) in
     λ j. record {
       row = getD (l j) 0 0;

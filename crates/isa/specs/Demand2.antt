@@ -129,12 +129,13 @@ pub record Demand2 (reader : List ℕ → Outcome Refusal Instruction) (writer :
   -- a record is written exactly when it is legal and the buffer has eight bytes
   pub written-when : (i : Instruction) (buffer : List ℕ) → (writer i buffer ≡ passes) ↔ (LegalRecord i × (length buffer ≡ 8))
 
--- the same of one call of the reader: its bytes and its answer
+-- what demand 2 says of one call of the reader: its bytes and its answer
 pub record ReadAsAsked (bs : List ℕ) (answer : Outcome Refusal Instruction) : Type 0 where
   pub read-when : Given answer ↔ Readable bs
   pub again : (i : Instruction) → answer ≡ gives i → (buffer : List ℕ) → length buffer ≡ 8 → stored i buffer ≡ bs
 
--- the same of one call of the writer: its record, its buffer before, its answer, and its buffer afterwards
+-- what demand 2 says of one call of the writer: its record, its buffer before, its answer, and its buffer afterwards; and of demand 1, that a
+-- refusal writes nothing
 pub record WrittenAsAsked (i : Instruction) (buffer : List ℕ) (answer : Outcome Refusal (Unit {0})) (after : List ℕ) : Type 0 where
   pub written-when : (answer ≡ passes) ↔ (LegalRecord i × (length buffer ≡ 8))
   pub back : answer ≡ passes → read after ≡ gives i

@@ -1,9 +1,10 @@
 -- Decoded instructions (the paper's records) and the numbers of their words.
 use mathlib.Core.List.{List, [], _∷_}
-use Prim.Native.Nat.{ℕ, _-_}
-use lib.Dec.{ltb, eqb}
-use lib.IntN.{ℤ, pos, negsuc}
+use Prim.Native.Nat.{ℕ}
+use lib.Dec.{eqb}
+use lib.IntN.{ℤ}
 use Rattle.bits.specs.Fields.{bits, choose, join}
+use Rattle.bits.specs.Signed.{unsigned, signed}
 use Rattle.isa.specs.Rows.{row-of}
 use Rattle.isa.specs.Layout.{at-s0, at-s1, at-offset, at-m8, at-m10, at-m11, at-s2, at-s3, at-m24, at-m26, at-m28, at-m30, at-m32, at-m34, at-m35, at-m36, at-m37, at-m38, at-m39, at-register, at-half-mask, at-page, at-flow, slots, width-of, low-of}
 use Rattle.isa.specs.declared.instruction.Sources.{Sources}
@@ -11,12 +12,11 @@ use Rattle.isa.specs.declared.instruction.Modifiers.{Modifiers}
 use Rattle.isa.specs.declared.instruction.Instruction.{Instruction}
 
 -- "Offsets run from -67108864 to 67108863", in 27 bits, two's complement; one that is out of range is a number too large for 27 bits
-unfoldable pub offset-number : ℤ → ℕ
-offset-number (pos n) = choose (ltb n 67108864) n 134217728
-offset-number (negsuc n) = choose (ltb n 67108864) (134217727 - n) 134217728
+abbrev pub offset-number : ℤ → ℕ
+offset-number z = unsigned 67108864 z
 
-unfoldable pub offset-of : ℕ → ℤ
-offset-of n = choose (ltb n 67108864) (pos n) (negsuc (134217727 - n))
+abbrev pub offset-of : ℕ → ℤ
+offset-of n = signed 67108864 n
 
 -- number i of a word of row k
 abbrev pub number-in : ℕ → ℕ → ℕ → ℕ

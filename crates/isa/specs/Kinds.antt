@@ -71,7 +71,7 @@ pub record About : Type 0 where
 abbrev pub modifier : ℕ → List Range → ℕ → About
 modifier n l d = record { width = n; legal = l; default = d; number = 6 }
 
--- any number that has room
+-- a field of which no number that has room is illegal; what is legal isn't asked
 abbrev pub free : ℕ → About
 free n = record { width = n; legal = []; default = 0; number = 0 }
 

@@ -13,7 +13,7 @@ use Rattle.isa.specs.Layout.{Field, layout, slot-count, at-page, low-of}
 use Rattle.isa.specs.Answers.{refusal}
 use Rattle.isa.specs.declared.answer.Refusal.{Refusal}
 
--- the value v is legal in a field of this kind, on this page: a source by its meaning, any other by its kind
+-- the value v is legal, on this page, in a field of a kind that has illegal values: a source by its meaning, any other by its kind
 abbrev pub legal : ℕ → Kind → ℕ → Bool
 legal page k v = choose (eqb (about k .number) 7) (source-legal page v) (within (about k .legal) v)
 

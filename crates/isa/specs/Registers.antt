@@ -41,6 +41,6 @@ defines i = choose (row-of (i .row) .destination && eqb (i .«half_mask») 3) (s
 abbrev pub ends : Instruction → Bool
 ends i = eqb (i .flow) 15
 
--- "for BRANCHZ also i + 1 + offset"
+-- "for BRANCHZ also i + 1 + offset": BRANCHZ is the only row that has an offset
 abbrev pub branches : Instruction → Bool
 branches i = row-of (i .row) .offset

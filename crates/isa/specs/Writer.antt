@@ -56,10 +56,11 @@ fields i =
 abbrev pub field-count : ℕ
 field-count = 23
 
--- two lists of one length are equal
+-- two lists are equal
 unfoldable pub same-list : List ℕ → List ℕ → Bool
-same-list [] ys = true
-same-list (x ∷ xs) [] = true
+same-list [] [] = true
+same-list [] (y ∷ ys) = false
+same-list (x ∷ xs) [] = false
 same-list (x ∷ xs) (y ∷ ys) = eqb x y && same-list xs ys
 
 abbrev pub same-offset : ℤ → ℤ → Bool

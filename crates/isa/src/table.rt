@@ -147,7 +147,8 @@ const JUMP: u64 = ONE | K_OFFSET << 6 * OFFSET;
 
 const FLUSH: u64 = ONE_4 | K_NAN_MODE << 6 * M8 | K_FLAG << 6 * M10 | K_FLAG << 6 * M11;
 
-// In fields 10 to 19: the paper's letters, of one source unless a number says which; N is without source 0's absolute.
+// In fields 10 to 19: the paper's letters, for source 0 unless a number says which. N lacks bit 39, which is field 20 and stands in BARE_A
+// and DEST_A.
 const N: u64 = K_FLAG << 6 * (M38 - 10);
 
 const N1: u64 = K_FLAG << 6 * (M36 - 10) | K_FLAG << 6 * (M37 - 10);

@@ -15,7 +15,8 @@ use Rattle.bits.proofs.OutcomeLaws.{never}
 use Rattle.isa.specs.Rows.{rows}
 use Rattle.isa.specs.Layout.{modifier-at, layout}
 use Rattle.isa.specs.Sources.{meaning}
-use Rattle.isa.specs.Instructions.{offset-number, offset-of, numbers}
+use Rattle.bits.specs.Signed.{unsigned, signed}
+use Rattle.isa.specs.Instructions.{numbers}
 use Rattle.isa.specs.Legality.{scan, judge}
 use Rattle.isa.specs.Reader.{find, lowest-stray, read-row, read}
 use Rattle.isa.specs.Registers.{reads, kills, defines}
@@ -63,7 +64,7 @@ unfolding bad container none nop mov-end
 bad-bytes = tt
 
 good-accepted : verdict-of good ≡ passes
-unfolding good container none nop-end verdict-of first each judge-program judge-instruction judge-successor none-missing after minus open-outcome version-of count-of entry-of words-of annotations-of little instruction-at annotation-at successors read read-row find rows layout modifier-at lowest-stray lowest-from assigned judge scan numbers offset-number offset-of meaning reads kills defines _then_
+unfolding good container none nop-end verdict-of first each judge-program judge-instruction judge-successor none-missing after minus open-outcome version-of count-of entry-of words-of annotations-of little instruction-at annotation-at successors read read-row find rows layout modifier-at lowest-stray lowest-from assigned judge scan numbers unsigned signed meaning reads kills defines _then_
 good-accepted = refl
 
 nothing : {X : Type 0} → _≡_ {A = ℕ} 0 1 → X
@@ -82,7 +83,7 @@ good-exact (suc i) l r k = absurd (omega arith)
 
 -- a walk of `bad` reads r2 where it is not defined
 bad-unsafe : ¬ AllSafe (machine-of bad)
-unfolding bad container none nop mov-end machine Has open-outcome version-of count-of entry-of words-of annotations-of little instruction-at annotation-at successors read read-row find rows layout modifier-at lowest-stray lowest-from assigned judge scan numbers offset-number offset-of meaning reads kills defines _then_
+unfolding bad container none nop mov-end machine Has open-outcome version-of count-of entry-of words-of annotations-of little instruction-at annotation-at successors read read-row find rows layout modifier-at lowest-stray lowest-from assigned judge scan numbers unsigned signed meaning reads kills defines _then_
 bad-unsafe safe =
     ⊎-elim (λ a. nothing a) (λ b. nothing (b .0))
     (safe (1 ∷ 0 ∷ []) (step start (List·Memᴰ·head refl) (omega arith)) .0 .needed 2 refl)
@@ -106,7 +107,7 @@ first-only s =
     then judge-index (program-of s) 0
 
 bad-passes : first-only bad ≡ passes
-unfolding bad container none nop mov-end first-only first each judge-program judge-instruction judge-successor none-missing after minus open-outcome version-of count-of entry-of words-of annotations-of little instruction-at annotation-at successors read read-row find rows layout modifier-at lowest-stray lowest-from assigned judge scan numbers offset-number offset-of meaning reads kills defines _then_
+unfolding bad container none nop mov-end first-only first each judge-program judge-instruction judge-successor none-missing after minus open-outcome version-of count-of entry-of words-of annotations-of little instruction-at annotation-at successors read read-row find rows layout modifier-at lowest-stray lowest-from assigned judge scan numbers unsigned signed meaning reads kills defines _then_
 bad-passes = refl
 
 pub only-first : ¬ Demand3 first-only

@@ -1,4 +1,9 @@
--- Demand 3: what a verdict proves of a container, and which containers it accepts. One claim over all walks.
+-- Demand 3: "Whatever bytes the check is handed, and whatever their notes claim: if it accepts them, they are a well-formed parcel, and the
+-- following holds for every walk, however long, from its first instruction along fall-through and branches. Every register read on the walk
+-- was in the entry set or fully written earlier on that walk, and not released since. On arriving at each instruction, every register that
+-- its note names as held is held. The walk doesn't leave the program. Conversely, a well-formed parcel is accepted whenever that holds for
+-- every walk, every instruction lies on some walk, and the notes name for each instruction exactly the registers held on every walk arriving
+-- there."
 use mathlib.Core.Path.{_≡_}
 use mathlib.Core.List.{List}
 use Prim.Native.Nat.{ℕ}

@@ -15,7 +15,7 @@ use Rattle.verifier.specs.Walks.{Inside}
 use Rattle.verifier.specs.Program.{Program, register-count, successors, after, program-of}
 use Rattle.verifier.specs.Verdict.{finding, no-register}
 
--- r is "the lowest offending register": it is named and not held, and each lower register that is named is held
+-- r is the "lowest offending register": it is named and not held, and each lower register that is named is held
 pub record LowestMissing (named held r : ℕ) : Type 0 where
   pub is : r < register-count
   pub names : Has named r
@@ -35,7 +35,7 @@ pub data Wrong (p : Program) : Finding → Type 0 where
   successor-lacks : (i j r : ℕ) → i < p .count → List·Memᴰ (pos j) (successors (p .instruction i) i) → j < p .count
       → LowestMissing (p .annotation j) (after (p .instruction i) (p .annotation i)) r → Wrong p (finding 22 0 i r)
 
--- why a container is refused
+-- why a container is refused. This says that what is reported is true; which refusal comes first is said by the verdict.
 pub data Reason (s : List ℕ) : Finding → Type 0 where
   unopened : (n : ℕ) → open-outcome s ≡ refuses n → Reason s (finding n 0 0 no-register)
   unreadable : (i : ℕ) (f : Refusal) → i < count-of s → read (eight (words-of s) i) ≡ refuses f

@@ -48,7 +48,7 @@ pub fn branch_target(i: usize, offset: i32, n: usize) -> usize
 }
 
 // The annotation at index i.
-pub fn annotation_at(annotations: &[u8], n: usize, i: usize) -> u64
+pub(crate) fn annotation_at(annotations: &[u8], n: usize, i: usize) -> u64
     requires { ⌜ Annotated (now annotations) n × (i < n) ⌝ }
     ensures { λ r. ⌜ r ≡ annotation-at (now (annotations .entry)) i ⌝ }
 {
@@ -86,7 +86,7 @@ fn judge_successors(annotations: &[u8], n: usize, i: usize, x: Instruction, befo
 }
 
 // Instruction i, which is x, with its annotation taken as what is defined before it.
-pub fn judge_instruction(annotations: &[u8], n: usize, i: usize, x: Instruction) -> Verdict
+pub(crate) fn judge_instruction(annotations: &[u8], n: usize, i: usize, x: Instruction) -> Verdict
     requires { ⌜ Annotated (now annotations) n × (i < n) ⌝ }
     ensures { λ r. ⌜ verdict-outcome r ≡ judge-instruction n (annotation-at (now (annotations .entry))) i x ⌝ }
 {

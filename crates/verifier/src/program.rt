@@ -24,7 +24,7 @@ ghost use Rattle.verifier.specs.Verdict.{verdict-outcome, first, judge-w
 const ENTRY_MISSING: u8 = 23;
 
 // The word at index i, read.
-pub fn reading_at(t: &Table, words: &[u8], n: usize, i: usize) -> Reading
+pub(crate) fn reading_at(t: &Table, words: &[u8], n: usize, i: usize) -> Reading
     requires { ⌜ Worded (now words) n × (i < n) × (now t ≡ table) ⌝ }
     ensures { λ r. ⌜ reading r ≡ read (eight (now (words .entry)) i) ⌝ }
 {
@@ -45,7 +45,7 @@ fn settle(kept: Verdict, annotations: &[u8], n: usize, i: usize, x: Instruction)
 }
 
 // The verdict on n words and annotations, before which `entry` is defined. A word that does not read comes before any other refusal.
-pub fn judge_words<'a>(
+pub(crate) fn judge_words<'a>(
     t: &Table,
     words: &'a [u8],
     annotations: &'a [u8],

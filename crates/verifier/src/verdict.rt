@@ -16,11 +16,13 @@ pub struct Finding {
     pub register: u32,
 }
 
+// What the verifier says of a container.
 pub enum Verdict {
     Accepted,
     Refused(Finding),
 }
 
+// A refusal.
 pub fn refused(number: u8, place: u8, index: usize, register: u32) -> Verdict
     ensures { λ r. ⌜ verdict-outcome r ≡ refuses (finding number place index register) ⌝ }
 {

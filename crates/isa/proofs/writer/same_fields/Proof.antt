@@ -42,7 +42,7 @@ loop-again c = (
 returns-2 : tie.Need-returns-2 Inv-loop μ-loop
 returns-2 c =
     let e : c .before .loop .i ≡ field-count = omega arith in
-    sym (same-end (c .before .before .args .t1) (c .before .before .args .t2) field-count (omega arith)) ∙ (rw e at (c .before .loop .inv .1))
+    sym (same-end (c .before .before .args .t1) (c .before .before .args .t2) field-count (omega arith) (omega arith)) ∙ (rw e at (c .before .loop .inv .1))
 
 pub same-fields-spec : {M : Type 1} → statement M
 same-fields-spec =
