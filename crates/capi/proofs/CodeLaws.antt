@@ -1,0 +1,33 @@
+-- The index of a finding has room in its place. Assumes nothing.
+use mathlib.Core.Path.{_≡_}
+use mathlib.Core.List.{List}
+use Prim.Native.Nat.{ℕ, _<_}
+use native.Mathlib.Omega.{arith}
+use lib.ListN.{getD}
+use Rattle.bits.specs.Outcomes.{refuses}
+use Rattle.container.specs.Container.{count-of}
+use Rattle.container.proofs.OpeningLaws.{count-two}
+use Rattle.verifier.specs.declared.verdict.Finding.{Finding}
+use Rattle.verifier.specs.Program.{program-of}
+use Rattle.verifier.specs.Verdict.{verdict-of}
+use Rattle.verifier.specs.Reasons.{Reason, unopened, unreadable, wrong, Wrong, entry-lacks, annotation-lacks, runs-off, successor-lacks}
+use Rattle.verifier.proofs.ProgramLaws.{bytes-below}
+use Rattle.verifier.proofs.ReasonLaws.{reason}
+
+module _ (s : List ℕ) (h : (k : ℕ) → getD s k 0 < 256) where
+  few : count-of s < 65536
+  few = omega (arith, count-two s, h 6, h 7)
+
+  wrong-small : {f : Finding} → Wrong (program-of s) f → f .index < 65536
+  wrong-small (entry-lacks r m) = omega arith
+  wrong-small (annotation-lacks i r l m) = let q : i < count-of s = l in omega (arith, few)
+  wrong-small (runs-off i z l m o) = let q : i < count-of s = l in omega (arith, few)
+  wrong-small (successor-lacks i j r l m k n) = let q : i < count-of s = l in omega (arith, few)
+
+  reason-small : {f : Finding} → Reason s f → f .index < 65536
+  reason-small (unopened n e) = omega arith
+  reason-small (unreadable i g l e) = omega (arith, few)
+  reason-small (wrong f w) = wrong-small w
+
+  pub index-small : {f : Finding} → verdict-of s ≡ refuses f → f .index < 65536
+  index-small e = reason-small (reason s (bytes-below s h) e)

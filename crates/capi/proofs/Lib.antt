@@ -1,0 +1,4 @@
+pub mod OffsetLaws
+pub mod CodeLaws
+pub mod FormLaws
+pub mod AnswerLaws

@@ -1,0 +1,33 @@
+use mathlib.Core.Path.{sym, ap, _∙_}
+use denote.Ref.{now}
+use Rattle.verifier.specs.declared.verdict.Verdict.{Verdict}
+use Rattle.verifier.specs.Verdict.{verdict-outcome}
+use Rattle.capi.specs.Codes.{verdict-code}
+use Rattle.capi.proofs.CodeLaws.{index-small}
+use borrow.Author.Needs.{needs}
+use Rattle.capi.proofs.vsp_check.Statement.{statement}
+use Rattle.capi.proofs.vsp_check.Tie as tie
+
+verify-requires : tie.Need-verify-requires
+verify-requires c κs = search needs
+
+enum-told : tie.Need-enum-told
+enum-told c = search needs
+
+enum-known-v : tie.Need-enum-known-v
+enum-known-v c = search needs
+
+finding-code-requires : tie.Need-finding-code-requires
+finding-code-requires c κs = let s = now (c .before .before .before .before .before .args .container) in
+    index-small s (λ k. c .before .before .before .before .shared-slice-known .given k .fits) (sym (c .before .before .before .verify .ensures .0) ∙ ap verdict-outcome (c .before .v .given .1))
+
+returns : tie.Need-returns
+returns c = ap (λ (v : Verdict). verdict-code (verdict-outcome v)) (sym (c .enum-told .given .1)) ∙ ap verdict-code (c .before .before .verify .ensures .0)
+
+returns-2 : tie.Need-returns-2
+returns-2 c = c .finding-code .ensures ∙ ap (λ (v : Verdict). verdict-code (verdict-outcome v)) (sym (c .before .before .v .given .1)) ∙ ap verdict-code (c .before .before .before .before .verify .ensures .0)
+
+pub vsp-check-spec : {M : Type 1} → statement M
+vsp-check-spec =
+    tie.close
+    (tie.spec verify-requires enum-told enum-known-v finding-code-requires returns returns-2)

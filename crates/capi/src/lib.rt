@@ -1,0 +1,107 @@
+// The exported functions for C and Rust: numbers, byte slices and fixed arrays only.
+ghost use mathlib.Core.Path.{_≡_};
+ghost use Prim.Native.Nat.{_<_};
+ghost use Rattle.isa.specs.Reader.{read};
+ghost use Rattle.isa.specs.Defaults.{fresh};
+ghost use Rattle.verifier.specs.Verdict.{verdict-of};
+ghost use Rattle.capi.specs.Codes.{code, packed, outcome-code, verdict-code};
+ghost use Rattle.capi.specs.Form.{form-after, write-form, word-after};
+use crate::form::form_of;
+use crate::form::instruction_in;
+use crate::form::padded;
+use bits::bytes::wide;
+use isa::answer::Fresh;
+use isa::answer::Reading;
+use isa::answer::Refusal;
+use isa::answer::Written;
+use isa::instruction::Instruction;
+use isa::reader::read_word;
+use isa::writer::write_word;
+use verifier::verdict::Finding;
+use verifier::verdict::Verdict;
+use verifier::verify;
+
+pub mod form;
+
+// A refusal as one number: number + 2^8 place.
+fn refusal_code(f: Refusal) -> u32
+    ensures { λ r. ⌜ r ≡ code f ⌝ }
+{
+    f.number as u32 + 256 * f.place as u32
+}
+
+// A finding as one number: number + 2^8 place + 2^16 index + 2^32 register.
+fn finding_code(f: Finding) -> u64
+    requires { ⌜ f .index < 65536 ⌝ }
+    ensures { λ r. ⌜ r ≡ packed f ⌝ }
+{
+    let low = f.number as u64 + 256 * f.place as u64;
+    low + 65536 * f.index as u64 + 4294967296 * f.register as u64
+}
+
+// Verifies a container: 0 where it is accepted, else the finding as one number.
+#[no_mangle]
+pub extern "C" fn vsp_check(container: &[u8]) -> u64
+    ensures { λ r. ⌜ r ≡ verdict-code (verdict-of (now (container .entry))) ⌝ }
+{
+    let v = verify(container);
+    match v {
+        Verdict::Accepted => 0,
+        Verdict::Refused(f) => finding_code(f),
+    }
+}
+
+// Reads a word into a form: 0, or the refusal as one number, and then the form keeps its bytes.
+#[no_mangle]
+pub extern "C" fn vsp_read(word: &[u8], form: &mut [u8; 32]) -> u32
+    ensures answer { λ r. ⌜ r ≡ outcome-code (read (now (word .entry))) ⌝ }
+    ensures kept { λ r. ⌜ now (form .exit) ≡ form-after (read (now (word .entry))) (now (form .entry)) ⌝ }
+{
+    let r = read_word(word);
+    match r {
+        Reading::Read(i) => {
+            *form = form_of(i);
+            0
+        }
+        Reading::Refused(f) => refusal_code(f),
+    }
+}
+
+// Writes a form's word: 0, or the refusal as one number, and then the word's buffer keeps its bytes.
+#[no_mangle]
+pub extern "C" fn vsp_write(form: &[u8; 32], word: &mut [u8]) -> u32
+    ensures answer { λ r. ⌜ r ≡ outcome-code (write-form (now (form .entry)) (now (word .entry))) ⌝ }
+    ensures kept { λ r. ⌜ now (word .exit) ≡ word-after (now (form .entry)) (now (word .entry)) ⌝ }
+{
+    if word.len() != 8 {
+        return 8;
+    }
+    let f = *form;
+    if Instruction::ROWS as u64 <= wide(f[0]) {
+        return 2;
+    }
+    if padded(f) {
+        return 9;
+    }
+    let w = write_word(instruction_in(f), word);
+    match w {
+        Written::Done => 0,
+        Written::Refused(r) => refusal_code(r),
+    }
+}
+
+// Makes a row's default in a form: 0, or the refusal as one number, and then the form keeps its bytes.
+#[no_mangle]
+pub extern "C" fn vsp_fresh(row: usize, form: &mut [u8; 32]) -> u32
+    ensures answer { λ r. ⌜ r ≡ outcome-code (fresh row) ⌝ }
+    ensures kept { λ r. ⌜ now (form .exit) ≡ form-after (fresh row) (now (form .entry)) ⌝ }
+{
+    let a = Instruction::fresh(row);
+    match a {
+        Fresh::Made(i) => {
+            *form = form_of(i);
+            0
+        }
+        Fresh::Refused(f) => refusal_code(f),
+    }
+}

@@ -1,0 +1,80 @@
+/*
+ * Lists a container through the C interface: for each word its index, its digits and its row
+ * number or refusal, then the verdict. Of a container that doesn't open, the verdict only.
+ * Exit status 0 where it is accepted, 1 where it is refused, 2 where the file can't be read.
+ *
+ * From the root of the repository, after `rt staticlib capi`:
+ *     cc -std=c99 -O2 -Iinclude examples/list.c target/staticlib/libcapi.a -o list
+ *     ./list FILE
+ */
+#include <inttypes.h>
+#include <stdio.h>
+
+#include "vsp.h"
+
+#define HEADER 16
+/* The longest container, and one byte more to tell a file that is too long. */
+#define LONGEST (HEADER + 16 * 2048)
+static uint8_t container[LONGEST + 1];
+
+/* The length of the file's start, or -1. */
+static long load(const char *name)
+{
+    FILE *file = fopen(name, "rb");
+    if (file == NULL)
+        return -1;
+    size_t length = fread(container, 1, sizeof container, file);
+    int failed = ferror(file);
+    fclose(file);
+    return failed ? -1 : (long)length;
+}
+
+static void list_word(unsigned index, const uint8_t *word)
+{
+    uint8_t form[VSP_FORM];
+    uint32_t answer = vsp_read(word, VSP_WORD, form);
+    printf("%04u ", index);
+    for (int k = VSP_WORD - 1; k >= 0; k--)
+        printf("%02X", word[k]);
+    if (answer == 0)
+        printf(" row %u\n", form[VSP_ROW]);
+    else
+        printf(" refused %u place %u\n", VSP_NUMBER(answer), VSP_PLACE(answer));
+}
+
+/* Whether the verdict is about the words or annotations of a container that opens. */
+static int opens(uint64_t verdict)
+{
+    unsigned number = VSP_NUMBER(verdict);
+    return number < 10 || number > 13;
+}
+
+static void print_verdict(uint64_t verdict)
+{
+    if (verdict == 0)
+        printf("ACCEPTED\n");
+    else
+        printf("REFUSED %u place %u index %u register %u\n", VSP_NUMBER(verdict), VSP_PLACE(verdict),
+               VSP_INDEX(verdict), VSP_REGISTER_OF(verdict));
+}
+
+int main(int count, char **arguments)
+{
+    if (count != 2) {
+        fprintf(stderr, "usage: list FILE\n");
+        return 2;
+    }
+    long length = load(arguments[1]);
+    if (length < 0) {
+        fprintf(stderr, "list: can't read %s\n", arguments[1]);
+        return 2;
+    }
+    uint64_t verdict = vsp_check(container, (size_t)length);
+    if (opens(verdict)) {
+        unsigned instructions = container[6] + 256u * container[7];
+        for (unsigned index = 0; index < instructions; index++)
+            list_word(index, container + HEADER + VSP_WORD * index);
+    }
+    print_verdict(verdict);
+    return verdict == 0 ? 0 : 1;
+}

@@ -1,0 +1,73 @@
+/// Why something is refused. 15 isn't here: a word that passes the writer's tests always
+/// reads back as its instruction.
+#[derive(Clone, Copy, Debug, PartialEq, Eq)]
+pub enum Refusal {
+    /// The bytes to read as a word aren't 8.
+    WordLength,
+    /// No row fits the word, or the row number is over 76.
+    NoRow,
+    /// A bit that no field of the row owns is 1.
+    UnassignedBit,
+    ReservedFlow,
+    /// A destination with half mask 0.
+    EmptyHalfMask,
+    /// An illegal modifier, by its lowest bit.
+    Modifier(u8),
+    /// A refused source, by its index.
+    Source(u8),
+    /// The buffer for a word isn't 8 bytes.
+    BufferLength,
+    /// A number too large for its field, an offset out of range, an unused place that isn't 0.
+    FieldRange,
+    Mark,
+    Version,
+    /// Fewer than 16 bytes, or a wrong count or length.
+    Size,
+    /// Byte 5 of the header isn't 0.
+    ReservedByte,
+    /// An index that isn't below the count.
+    Index,
+    /// An instruction reads a register that its annotation lacks.
+    UndefinedRead,
+    /// A successor outside the program.
+    LeavesProgram,
+    /// A successor's annotation names a register that isn't defined after the instruction.
+    UndefinedAfter,
+    /// Annotation 0 names a register outside the entry set.
+    UndefinedAtEntry,
+}
+
+impl Refusal {
+    /// The paper's number.
+    pub const fn number(self) -> u8 {
+        match self {
+            Refusal::WordLength => 1,
+            Refusal::NoRow => 2,
+            Refusal::UnassignedBit => 3,
+            Refusal::ReservedFlow => 4,
+            Refusal::EmptyHalfMask => 5,
+            Refusal::Modifier(_) => 6,
+            Refusal::Source(_) => 7,
+            Refusal::BufferLength => 8,
+            Refusal::FieldRange => 9,
+            Refusal::Mark => 10,
+            Refusal::Version => 11,
+            Refusal::Size => 12,
+            Refusal::ReservedByte => 13,
+            Refusal::Index => 14,
+            Refusal::UndefinedRead => 20,
+            Refusal::LeavesProgram => 21,
+            Refusal::UndefinedAfter => 22,
+            Refusal::UndefinedAtEntry => 23,
+        }
+    }
+
+    /// The paper's place, 0 where none is named.
+    pub const fn place(self) -> u8 {
+        match self {
+            Refusal::Modifier(lowest_bit) => lowest_bit,
+            Refusal::Source(index) => index,
+            _ => 0,
+        }
+    }
+}

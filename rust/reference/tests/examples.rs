@@ -1,0 +1,339 @@
+//! The paper's checked examples, and the reference's tables as wholes.
+
+use reference::{Container, Instruction, MODIFIER_BITS, ROW_COUNT, ROWS, Refusal, Verdict, check, fresh, read, write};
+
+fn read_word(word: u64) -> Result<Instruction, Refusal> {
+    read(&word.to_le_bytes())
+}
+
+fn write_word(instruction: &Instruction) -> Result<u64, Refusal> {
+    let mut buffer = [0; 8];
+    write(instruction, &mut buffer).map(|()| u64::from_le_bytes(buffer))
+}
+
+fn row(name: &str) -> u8 {
+    ROWS.iter().position(|row| row.name == name).unwrap() as u8
+}
+
+fn container(entry: u64, words: &[u64], annotations: &[u64]) -> Vec<u8> {
+    let mut bytes = b"VSP\x01\0\0".to_vec();
+    bytes.extend((words.len() as u16).to_le_bytes());
+    for number in [entry].iter().chain(words).chain(annotations) {
+        bytes.extend(number.to_le_bytes());
+    }
+    bytes
+}
+
+fn refused(refusal: Refusal, index: u16, register: u8) -> Verdict {
+    Verdict::Refused { refusal, index, register }
+}
+
+/// An instruction with a full destination, all else 0.
+fn plain(name: &str, register: u8, sources: [u8; 4]) -> Instruction {
+    Instruction { row: row(name), register, half_mask: 3, sources, ..Instruction::default() }
+}
+
+fn with(mut instruction: Instruction, lowest_bit: u8, value: u8) -> Instruction {
+    let slot = MODIFIER_BITS.iter().position(|low| *low == lowest_bit).unwrap();
+    instruction.modifiers[slot] = value;
+    instruction
+}
+
+const A: u64 = 0x0091_C100_0000_0002;
+const B: u64 = 0x7800_0000_0000_0000;
+const C: u64 = 0x0091_C300_000C_0044;
+const BRANCH: u64 = 0x001F_0000_0000_00C0;
+
+fn branch(offset: i32) -> u64 {
+    BRANCH | (offset as u64 & 0x7FF_FFFF) << 8
+}
+
+#[test]
+fn words_that_read() {
+    let fadd = with(plain("FADD.f32", 0, [1, 2, 0, 0]), 36, 1);
+    let fadd16 = with(with(plain("FADD.v2f16", 0, [1, 2, 0, 0]), 28, 2), 26, 2);
+    let branch = Instruction { row: row("BRANCHZ"), sources: [192, 0, 0, 0], offset: -1, ..Instruction::default() };
+    let examples = [
+        (A, plain("MOV.i32", 1, [2, 0, 0, 0])),
+        (B, Instruction { flow: 15, ..Instruction::default() }),
+        (C, plain("POPCOUNT.i32", 3, [68, 0, 0, 0])),
+        (0x00A4_C010_0000_0201, fadd),
+        (0x001F_0007_FFFF_FFC0, branch),
+        (0x00A5_C000_2800_0201, fadd16),
+        (0x0291_C100_0000_0085, Instruction { page: 1, ..plain("MOV.i32", 1, [133, 0, 0, 0]) }),
+        (0x0091_C100_0000_00E2, plain("MOV.i32", 1, [226, 0, 0, 0])),
+    ];
+    for (word, instruction) in examples {
+        assert_eq!(read_word(word), Ok(instruction), "{word:016X}");
+        assert_eq!(write_word(&instruction), Ok(word), "{word:016X}");
+    }
+}
+
+#[test]
+fn words_that_are_refused() {
+    let examples = [
+        (0x8000_0000_0000_0000, Refusal::UnassignedBit),
+        (0x0091_C100_0001_0002, Refusal::NoRow),
+        (0x5891_C100_0000_0002, Refusal::ReservedFlow),
+        (0x00F0_C006_0002_0100, Refusal::Modifier(32)),
+        (0x0091_C100_0000_00E0, Refusal::Source(0)),
+        (0x0091_C100_0000_0102, Refusal::UnassignedBit),
+        (0x0091_0100_0000_0002, Refusal::EmptyHalfMask),
+    ];
+    for (word, refusal) in examples {
+        assert_eq!(read_word(word), Err(refusal), "{word:016X}");
+    }
+}
+
+#[test]
+fn word_lengths() {
+    for length in (0..24).filter(|length| *length != 8) {
+        assert_eq!(read(&vec![0; length]), Err(Refusal::WordLength), "{length}");
+        let mut buffer = vec![7; length];
+        assert_eq!(write(&Instruction::default(), &mut buffer), Err(Refusal::BufferLength), "{length}");
+        assert_eq!(buffer, vec![7; length], "{length}");
+    }
+}
+
+#[test]
+fn instructions_that_are_refused() {
+    let mov = plain("MOV.i32", 1, [2, 0, 0, 0]);
+    let branch = Instruction { row: row("BRANCHZ"), ..Instruction::default() };
+    let lane = plain("F16_TO_F32", 0, [0; 4]);
+    let examples = [
+        (Instruction { row: 77, ..mov }, Refusal::NoRow),
+        (Instruction { offset: 67_108_864, ..branch }, Refusal::FieldRange),
+        (Instruction { offset: -67_108_865, ..branch }, Refusal::FieldRange),
+        (Instruction { offset: 1, ..mov }, Refusal::FieldRange),
+        (Instruction { page: 4, ..mov }, Refusal::FieldRange),
+        (Instruction { flow: 16, half_mask: 0, ..mov }, Refusal::FieldRange),
+        (Instruction { register: 64, ..mov }, Refusal::FieldRange),
+        (Instruction { half_mask: 4, ..mov }, Refusal::FieldRange),
+        (Instruction { half_mask: 3, ..branch }, Refusal::FieldRange),
+        (Instruction { sources: [2, 1, 0, 0], ..mov }, Refusal::FieldRange),
+        (with(mov, 30, 1), Refusal::FieldRange),
+        (with(lane, 28, 2), Refusal::FieldRange),
+        (Instruction { flow: 12, half_mask: 0, ..mov }, Refusal::ReservedFlow),
+        (Instruction { half_mask: 0, sources: [255, 0, 0, 0], ..mov }, Refusal::EmptyHalfMask),
+        (with(with(plain("ICMP_OR.u32", 0, [255; 4]), 32, 7), 26, 1), Refusal::FieldRange),
+        (with(with(plain("ICMP_OR.u32", 0, [0, 0, 255, 0]), 32, 7), 26, 1), Refusal::Modifier(26)),
+        (plain("CSEL.f32", 0, [0, 0, 224, 255]), Refusal::Source(2)),
+    ];
+    for (instruction, refusal) in examples {
+        assert_eq!(write_word(&instruction), Err(refusal), "{instruction:?}");
+    }
+    for offset in [67_108_863, -67_108_864] {
+        let instruction = Instruction { offset, ..branch };
+        assert_eq!(write_word(&instruction).and_then(read_word), Ok(instruction));
+    }
+}
+
+/// Every source byte on every page, against the enumerations spelled out by name.
+#[test]
+fn source_bytes() {
+    let names: [&[(u8, &str)]; 4] = [
+        &[
+            (2, "warp_id"),
+            (4, "framebuffer_size"),
+            (5, "atest_datum"),
+            (6, "sample"),
+            (8, "blend_descriptor_0"),
+            (9, "blend_descriptor_1"),
+            (10, "blend_descriptor_2"),
+            (11, "blend_descriptor_3"),
+            (12, "blend_descriptor_4"),
+            (13, "blend_descriptor_5"),
+            (14, "blend_descriptor_6"),
+            (15, "blend_descriptor_7"),
+        ],
+        &[(1, "thread_local_pointer"), (3, "workgroup_local_pointer"), (7, "resource_table_pointer")],
+        &[],
+        &[(1, "lane_id"), (3, "core_id"), (15, "program_counter")],
+    ];
+    for page in 0..4 {
+        for byte in 0..=255 {
+            let named = names[page as usize].iter().any(|(value, _)| 192 + 32 + value == byte);
+            let instruction = Instruction { page, ..plain("MOV.i32", 1, [byte, 0, 0, 0]) };
+            let expected = if byte < 224 || named { Ok(instruction) } else { Err(Refusal::Source(0)) };
+            let word = A & !0xFF | u64::from(byte) | u64::from(page) << 57;
+            assert_eq!(read_word(word), expected, "byte {byte} on page {page}");
+        }
+    }
+}
+
+#[test]
+fn fresh_instructions() {
+    for number in 0..ROW_COUNT {
+        let instruction = fresh(number as u64).unwrap();
+        assert_eq!(write_word(&instruction).and_then(read_word), Ok(instruction), "{number}");
+    }
+    for row in [77, 78, 255, 256, 257, 1 << 32, (1 << 32) + 3, u64::MAX] {
+        assert_eq!(fresh(row), Err(Refusal::NoRow), "{row}");
+    }
+    let halves = with(with(with(plain("MUX.v2i16", 0, [0; 4]), 24, 2), 26, 2), 28, 2);
+    assert_eq!(fresh(row("MUX.v2i16").into()), Ok(with(halves, 32, 1)));
+    let compare = with(with(plain("ICMP_AND.v2u16", 0, [0; 4]), 26, 2), 36, 2);
+    assert_eq!(fresh(row("ICMP_AND.v2u16").into()), Ok(compare));
+    assert_eq!(fresh(0), Ok(Instruction::default()));
+}
+
+/// The rows' places, by a few names of each part of the list.
+#[test]
+fn row_numbers() {
+    let numbers = [
+        ("NOP", 0),
+        ("CSEL.v2f16", 4),
+        ("V2S16_TO_V2F16", 5),
+        ("FROUND.v2f16", 29),
+        ("MOV.i32", 30),
+        ("NOT_OLD.i32", 39),
+        ("FLUSH.v2f16", 41),
+        ("FRCP.f32", 42),
+        ("FEXP_TABLE.u4", 52),
+        ("FADD.f32", 53),
+        ("MUX.v4i8", 57),
+        ("IDP.v4u8", 63),
+        ("ICMP_AND.v4u8", 69),
+        ("FCMP_OR.f32", 70),
+        ("FCMP_AND.v2f16", 73),
+        ("ICMP_OR.v4s8", 76),
+    ];
+    for (name, number) in numbers {
+        assert_eq!(row(name), number, "{name}");
+    }
+}
+
+/// No bit belongs to two fields of a row.
+#[test]
+fn fields_are_disjoint() {
+    for row in &ROWS {
+        let mut fields = vec![(48, 9), (57, 2), (59, 4), (0, 8 * row.sources as u8)];
+        fields.extend(row.destination.then_some((40, 8)));
+        fields.extend(row.offset.then_some((8, 27)));
+        fields.extend(row.secondary.map(|secondary| (secondary.low, secondary.width)));
+        fields.extend(MODIFIER_BITS.iter().zip(row.modifiers).map(|(low, modifier)| (*low, modifier.width)));
+        let mut owned = 0;
+        for (low, width) in fields {
+            let bits = ((1u64 << width) - 1) << low;
+            assert_eq!(owned & bits, 0, "{} at bit {low}", row.name);
+            owned |= bits;
+        }
+        assert_eq!(owned >> 63, 0, "{}", row.name);
+    }
+}
+
+#[test]
+fn containers_that_do_not_open() {
+    let good = container(4, &[A | B], &[4]);
+    assert_eq!(check(&good), Verdict::Accepted);
+    let damaged = |at: usize, byte: u8| {
+        let mut bytes = good.clone();
+        bytes[at] = byte;
+        bytes
+    };
+    let examples = [
+        (damaged(0, b'v'), Refusal::Mark),
+        (damaged(2, 0), Refusal::Mark),
+        (damaged(3, 2), Refusal::Version),
+        (damaged(4, 1), Refusal::Version),
+        (damaged(5, 1), Refusal::ReservedByte),
+        (damaged(6, 0), Refusal::Size),
+        (damaged(6, 2), Refusal::Size),
+        (damaged(7, 1), Refusal::Size),
+        (container(0, &[], &[]), Refusal::Size),
+        (container(0, &[B; 2049], &[0; 2049]), Refusal::Size),
+        (vec![b'v'; 15], Refusal::Size),
+        (vec![b'v'; 16], Refusal::Mark),
+        (good[..31].to_vec(), Refusal::Size),
+        ([&good[..], &[0]].concat(), Refusal::Size),
+        (Vec::new(), Refusal::Size),
+    ];
+    for (bytes, refusal) in examples {
+        assert_eq!(check(&bytes), refused(refusal, 0, 64), "{bytes:02X?}");
+        assert_eq!(Container::open(&bytes).err(), Some(refusal), "{bytes:02X?}");
+    }
+    assert_eq!(check(&container(0, &[B; 2048], &[0; 2048])), Verdict::Accepted);
+}
+
+#[test]
+fn opened_containers() {
+    let bytes = container(4, &[A, B], &[4, 0]);
+    let opened = Container::open(&bytes).unwrap();
+    assert_eq!((opened.entry, opened.count()), (4, 2));
+    assert_eq!(opened.word(1), Ok(&B.to_le_bytes()));
+    for index in [2, 3, 2048, usize::MAX] {
+        assert_eq!(opened.word(index), Err(Refusal::Index));
+    }
+    assert_eq!(opened.annotations().as_ptr_range(), bytes[32..].as_ptr_range());
+}
+
+#[test]
+fn verdicts() {
+    const R1: u64 = 1 << 1;
+    const R2: u64 = 1 << 2;
+    const R3: u64 = 1 << 3;
+    const R4: u64 = 1 << 4;
+    let half = A & !(1 << 46);
+    let bad = 0x00F0_C006_0002_0100;
+    let no_successor = BRANCH & !0xFF | B | 0x44;
+    let examples: [(u64, &[u64], &[u64], Verdict); 20] = [
+        (R2, &[A | B], &[R2], Verdict::Accepted),
+        (R2, &[A | B], &[0], refused(Refusal::UndefinedRead, 0, 2)),
+        (R2, &[A], &[R2], refused(Refusal::LeavesProgram, 0, 64)),
+        (R2, &[A], &[R2 | R1], refused(Refusal::UndefinedAtEntry, 0, 1)),
+        // A release counts on both arms of a later branch.
+        (R4, &[C, branch(-2), B], &[R4, R3, 0], refused(Refusal::UndefinedAfter, 1, 4)),
+        (R4, &[C, branch(0), B], &[R4, R3, R3], Verdict::Accepted),
+        // The offset counts from the next instruction.
+        (0, &[branch(-1), B], &[0, 0], Verdict::Accepted),
+        (0, &[branch(-2), B], &[0, 0], refused(Refusal::LeavesProgram, 0, 64)),
+        (0, &[branch(1), B], &[0, 0], refused(Refusal::LeavesProgram, 0, 64)),
+        (0, &[branch(0), B], &[0, 0], Verdict::Accepted),
+        // The fall-through comes before the target.
+        (0, &[branch(-2), B], &[0, R3], refused(Refusal::UndefinedAfter, 0, 3)),
+        (0, &[B, branch(-2)], &[0, 0], refused(Refusal::LeavesProgram, 1, 64)),
+        // A full write defines, a half write doesn't.
+        (R2, &[A, B], &[R2, R1 | R2], Verdict::Accepted),
+        (R2, &[half, B], &[R2, R1 | R2], refused(Refusal::UndefinedAfter, 0, 1)),
+        // Killed and defined by the same instruction: defined after it.
+        (R1, &[A & !0xFF | 0x41, B], &[R1, R1], Verdict::Accepted),
+        // A branch that ends has no successor, but reads its source.
+        (R4, &[no_successor], &[R4], Verdict::Accepted),
+        (R4, &[no_successor], &[0], refused(Refusal::UndefinedRead, 0, 4)),
+        // An unreadable word comes before 23 and 20, the lowest one first.
+        (0, &[A, bad, bad], &[R1, 0, 0], refused(Refusal::Modifier(32), 1, 64)),
+        (0, &[A, B, 1 << 63], &[0, 0, 0], refused(Refusal::UnassignedBit, 2, 64)),
+        // Unreachable instructions are checked too.
+        (R2, &[B, A], &[0, R2], refused(Refusal::LeavesProgram, 1, 64)),
+    ];
+    for (entry, words, annotations, verdict) in examples {
+        assert_eq!(check(&container(entry, words, annotations)), verdict, "{words:016X?} {annotations:X?}");
+    }
+}
+
+#[test]
+fn numbers_and_places() {
+    let refusals = [
+        (Refusal::WordLength, 1, 0),
+        (Refusal::NoRow, 2, 0),
+        (Refusal::UnassignedBit, 3, 0),
+        (Refusal::ReservedFlow, 4, 0),
+        (Refusal::EmptyHalfMask, 5, 0),
+        (Refusal::Modifier(37), 6, 37),
+        (Refusal::Source(3), 7, 3),
+        (Refusal::BufferLength, 8, 0),
+        (Refusal::FieldRange, 9, 0),
+        (Refusal::Mark, 10, 0),
+        (Refusal::Version, 11, 0),
+        (Refusal::Size, 12, 0),
+        (Refusal::ReservedByte, 13, 0),
+        (Refusal::Index, 14, 0),
+        (Refusal::UndefinedRead, 20, 0),
+        (Refusal::LeavesProgram, 21, 0),
+        (Refusal::UndefinedAfter, 22, 0),
+        (Refusal::UndefinedAtEntry, 23, 0),
+    ];
+    for (refusal, number, place) in refusals {
+        assert_eq!((refusal.number(), refusal.place()), (number, place), "{refusal:?}");
+    }
+}

@@ -1,0 +1,116 @@
+//! Safe functions over the C interface in `include/vsp.h`.
+//!
+//! ```no_run
+//! let word = 0x0091_C100_0000_0002_u64.to_le_bytes();
+//! match vsp::read(&word) {
+//!     Ok(form) => println!("row {} writes register {}", form.row, form.register),
+//!     Err(refusal) => println!("refused with {}", refusal.number),
+//! }
+//! ```
+
+pub mod raw;
+
+/// The length of a word.
+pub const WORD: usize = 8;
+/// The length of the C interface's form of an instruction.
+pub const FORM: usize = 32;
+
+/// The fields of an instruction. Places that its row doesn't use are 0.
+#[derive(Clone, Copy, Debug, Default, PartialEq, Eq)]
+pub struct Form {
+    pub row: u8,
+    pub page: u8,
+    pub flow: u8,
+    /// The destination's register.
+    pub register: u8,
+    /// The destination's half mask: 1 low, 2 high, 3 full.
+    pub half_mask: u8,
+    /// Each source as its byte in the word.
+    pub sources: [u8; 4],
+    /// The modifiers whose lowest bits are 8, 10, 11, 24, 26, 28, 30, 32, 34 to 39.
+    pub modifiers: [u8; 14],
+    /// The branch offset, counted from the next instruction.
+    pub offset: i32,
+}
+
+/// Why a word, an instruction or a row number is refused.
+#[derive(Clone, Copy, Debug, PartialEq, Eq)]
+pub struct Refusal {
+    pub number: u8,
+    /// The lowest bit of the modifier (6), the index of the source (7), else 0.
+    pub place: u8,
+}
+
+/// The answer of [`check`].
+#[derive(Clone, Copy, Debug, PartialEq, Eq)]
+pub enum Verdict {
+    Accepted,
+    Refused {
+        number: u8,
+        place: u8,
+        /// The instruction at fault, 0 where the container doesn't open.
+        index: u16,
+        /// The lowest register at fault, 64 where none is.
+        register: u8,
+    },
+}
+
+/// Opens a container, reads all its words and checks its annotations.
+pub fn check(container: &[u8]) -> Verdict {
+    let code = raw::check(container);
+    if code == 0 {
+        return Verdict::Accepted;
+    }
+    Verdict::Refused {
+        number: code as u8,
+        place: (code >> 8) as u8,
+        index: (code >> 16) as u16,
+        register: (code >> 32) as u8,
+    }
+}
+
+/// Reads a word of 8 little-endian bytes.
+pub fn read(word: &[u8]) -> Result<Form, Refusal> {
+    let mut form = [0; FORM];
+    answer(raw::read(word, &mut form)).map(|()| Form::from_bytes(&form))
+}
+
+/// Writes an instruction into a buffer of 8 bytes; a refusal leaves the buffer as it was.
+pub fn write(form: &Form, word: &mut [u8]) -> Result<(), Refusal> {
+    answer(raw::write(&form.to_bytes(), word))
+}
+
+/// The fresh instruction of a row, 0 to 76.
+pub fn fresh(row: u64) -> Result<Form, Refusal> {
+    let mut form = [0; FORM];
+    answer(raw::fresh(row, &mut form)).map(|()| Form::from_bytes(&form))
+}
+
+fn answer(code: u32) -> Result<(), Refusal> {
+    match code {
+        0 => Ok(()),
+        _ => Err(Refusal { number: code as u8, place: (code >> 8) as u8 }),
+    }
+}
+
+impl Form {
+    /// The layout of the C interface, padding 0.
+    pub fn to_bytes(&self) -> [u8; FORM] {
+        let mut bytes = [0; FORM];
+        bytes[..5].copy_from_slice(&[self.row, self.page, self.flow, self.register, self.half_mask]);
+        bytes[5..9].copy_from_slice(&self.sources);
+        bytes[9..23].copy_from_slice(&self.modifiers);
+        bytes[24..28].copy_from_slice(&self.offset.to_le_bytes());
+        bytes
+    }
+
+    /// The fields of the C interface's layout. Padding is passed over.
+    pub fn from_bytes(bytes: &[u8; FORM]) -> Form {
+        let [row, page, flow, register, half_mask, ..] = *bytes;
+        let mut form = Form { row, page, flow, register, half_mask, ..Form::default() };
+        form.sources.copy_from_slice(&bytes[5..9]);
+        form.modifiers.copy_from_slice(&bytes[9..23]);
+        form.offset = i32::from_le_bytes([bytes[24], bytes[25], bytes[26], bytes[27]]);
+        form
+    }
+}

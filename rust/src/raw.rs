@@ -1,0 +1,34 @@
+//! The C functions with slices for pointers and lengths, and their codes as they come.
+
+use crate::FORM;
+
+unsafe extern "C" {
+    fn vsp_check(container: *const u8, length: usize) -> u64;
+    fn vsp_read(word: *const u8, length: usize, form: *mut u8) -> u32;
+    fn vsp_write(form: *const u8, word: *mut u8, length: usize) -> u32;
+    fn vsp_fresh(row: u64, form: *mut u8) -> u32;
+}
+
+/// 0, or number + 2^8 place + 2^16 index + 2^32 register.
+pub fn check(container: &[u8]) -> u64 {
+    // SAFETY: the pointer is good for reading as many bytes as the length says.
+    unsafe { vsp_check(container.as_ptr(), container.len()) }
+}
+
+/// 0, or number + 2^8 place; then the form keeps its bytes.
+pub fn read(word: &[u8], form: &mut [u8; FORM]) -> u32 {
+    // SAFETY: as above; the form is 32 bytes to write to, apart from the word.
+    unsafe { vsp_read(word.as_ptr(), word.len(), form.as_mut_ptr()) }
+}
+
+/// 0, or number + 2^8 place; then the word keeps its bytes.
+pub fn write(form: &[u8; FORM], word: &mut [u8]) -> u32 {
+    // SAFETY: the form is 32 bytes to read; the word is as long as said, and apart from it.
+    unsafe { vsp_write(form.as_ptr(), word.as_mut_ptr(), word.len()) }
+}
+
+/// 0, or number + 2^8 place; then the form keeps its bytes.
+pub fn fresh(row: u64, form: &mut [u8; FORM]) -> u32 {
+    // SAFETY: the form is 32 bytes to write to.
+    unsafe { vsp_fresh(row, form.as_mut_ptr()) }
+}

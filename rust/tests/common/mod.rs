@@ -1,0 +1,203 @@
+//! Each function of the library beside the reference: codes, results, and memory afterwards.
+#![allow(dead_code)]
+
+use inputs::Rng;
+use reference::{Instruction, Refusal, Verdict};
+use vsp::{FORM, Form, raw};
+
+/// Room on both sides of a lent buffer, to see writes that go astray.
+const MARGIN: usize = 16;
+
+/// How often each number was given; index 0 counts what was accepted.
+pub struct Tally([u64; 256]);
+
+impl Tally {
+    pub fn new() -> Tally {
+        Tally([0; 256])
+    }
+
+    pub fn count(&mut self, code: u64) {
+        self.0[code as u8 as usize] += 1;
+    }
+
+    pub fn total(&self) -> u64 {
+        self.0.iter().sum()
+    }
+
+    /// Every one of these numbers was given at least so often.
+    pub fn assert_seen(&self, numbers: &[u8], times: u64) {
+        for number in numbers {
+            let seen = self.0[*number as usize];
+            assert!(seen >= times, "number {number} was given {seen} times, not {times}");
+        }
+    }
+
+    /// Nothing but these numbers was given.
+    pub fn assert_only(&self, numbers: &[u8]) {
+        let others: u64 = (0..=255).filter(|number| !numbers.contains(number)).map(|n| self.0[n as usize]).sum();
+        assert_eq!(others, 0, "answers other than {numbers:?}");
+    }
+}
+
+/// Number + 2^8 place.
+pub fn code(refusal: Refusal) -> u32 {
+    u32::from(refusal.number()) | u32::from(refusal.place()) << 8
+}
+
+/// 0, or number + 2^8 place + 2^16 index + 2^32 register.
+pub fn verdict_code(verdict: Verdict) -> u64 {
+    match verdict {
+        Verdict::Accepted => 0,
+        Verdict::Refused { refusal, index, register } => {
+            u64::from(code(refusal)) | u64::from(index) << 16 | u64::from(register) << 32
+        }
+    }
+}
+
+/// The form of an instruction, byte by byte as documented.
+pub fn form(instruction: &Instruction) -> [u8; FORM] {
+    let mut form = [0; FORM];
+    form[0] = instruction.row;
+    form[1] = instruction.page;
+    form[2] = instruction.flow;
+    form[3] = instruction.register;
+    form[4] = instruction.half_mask;
+    form[5..9].copy_from_slice(&instruction.sources);
+    form[9..23].copy_from_slice(&instruction.modifiers);
+    form[24..28].copy_from_slice(&instruction.offset.to_le_bytes());
+    form
+}
+
+/// The instruction of a form whose padding is 0.
+fn instruction(form: &[u8; FORM]) -> Instruction {
+    Instruction {
+        row: form[0],
+        page: form[1],
+        flow: form[2],
+        register: form[3],
+        half_mask: form[4],
+        sources: form[5..9].try_into().unwrap(),
+        modifiers: form[9..23].try_into().unwrap(),
+        offset: i32::from_le_bytes(form[24..28].try_into().unwrap()),
+    }
+}
+
+/// What writing a form must answer: the paper's order, with padding counted among 9.
+fn expected_write(bytes: &[u8; FORM], length: usize) -> Result<[u8; 8], Refusal> {
+    let padded = bytes[23] != 0 || bytes[28..] != [0; 4];
+    let mut word = [0; 8];
+    match reference::write(&instruction(bytes), &mut word) {
+        _ if length != 8 => Err(Refusal::BufferLength),
+        Err(Refusal::NoRow) => Err(Refusal::NoRow),
+        _ if padded => Err(Refusal::FieldRange),
+        answer => answer.map(|()| word),
+    }
+}
+
+/// A buffer of random bytes, and where in it the lent part is.
+fn memory(rng: &mut Rng, length: usize) -> (Vec<u8>, std::ops::Range<usize>) {
+    let bytes = (0..MARGIN + length + MARGIN).map(|_| rng.byte()).collect();
+    (bytes, MARGIN..MARGIN + length)
+}
+
+fn lent_form(memory: &mut [u8]) -> &mut [u8; FORM] {
+    memory.try_into().unwrap()
+}
+
+fn from_refusal(refusal: Refusal) -> vsp::Refusal {
+    vsp::Refusal { number: refusal.number(), place: refusal.place() }
+}
+
+/// Reads the bytes with both; gives back the code.
+pub fn compare_read(rng: &mut Rng, word: &[u8]) -> u32 {
+    let expected = reference::read(word);
+    let (mut bytes, part) = memory(rng, FORM);
+    let mut after = bytes.clone();
+    if let Ok(instruction) = &expected {
+        after[part.clone()].copy_from_slice(&form(instruction));
+    }
+    let answer = raw::read(word, lent_form(&mut bytes[part]));
+    assert_eq!(answer, expected.map_or_else(code, |_| 0), "reading {word:02X?}");
+    assert_eq!(bytes, after, "the form after reading {word:02X?}");
+    let safe = vsp::read(word).map(|form| form.to_bytes());
+    assert_eq!(safe, expected.map(|i| form(&i)).map_err(from_refusal), "reading {word:02X?}");
+    answer
+}
+
+/// Reads a word with both and, where it reads, writes it back.
+pub fn compare_word(rng: &mut Rng, word: u64) -> u32 {
+    let bytes = word.to_le_bytes();
+    let answer = compare_read(rng, &bytes);
+    if let Ok(form) = vsp::read(&bytes) {
+        let mut back = [rng.byte(); 8];
+        assert_eq!(vsp::write(&form, &mut back), Ok(()), "writing back {word:016X}");
+        assert_eq!(back, bytes, "writing back {word:016X}");
+    }
+    answer
+}
+
+/// Writes a form into a buffer of this length with both; gives back the code.
+pub fn compare_write(rng: &mut Rng, form: &[u8; FORM], length: usize) -> u32 {
+    let expected = expected_write(form, length);
+    let (mut bytes, part) = memory(rng, length);
+    let mut after = bytes.clone();
+    if let Ok(word) = expected {
+        after[part.clone()].copy_from_slice(&word);
+    }
+    let mut safe = bytes.clone();
+    let answer = raw::write(form, &mut bytes[part.clone()]);
+    assert_eq!(answer, expected.map_or_else(code, |_| 0), "writing {form:02X?} into {length} bytes");
+    assert_eq!(bytes, after, "the buffer of {length} bytes after writing {form:02X?}");
+    let typed = Form::from_bytes(form);
+    if typed.to_bytes() == *form {
+        let answer = vsp::write(&typed, &mut safe[part]);
+        assert_eq!(answer, expected.map(|_| ()).map_err(from_refusal), "writing {form:02X?}");
+        assert_eq!(safe, after, "the buffer of {length} bytes after writing {form:02X?}");
+    }
+    if let Ok(word) = expected {
+        assert_eq!(vsp::read(&word), Ok(typed), "reading back {form:02X?}");
+    }
+    answer
+}
+
+/// Makes the fresh instruction of a row with both; gives back the code.
+pub fn compare_fresh(rng: &mut Rng, row: u64) -> u32 {
+    let expected = reference::fresh(row);
+    let (mut bytes, part) = memory(rng, FORM);
+    let mut after = bytes.clone();
+    if let Ok(instruction) = &expected {
+        after[part.clone()].copy_from_slice(&form(instruction));
+    }
+    let answer = raw::fresh(row, lent_form(&mut bytes[part]));
+    assert_eq!(answer, expected.map_or_else(code, |_| 0), "the fresh instruction of row {row}");
+    assert_eq!(bytes, after, "the form after the fresh instruction of row {row}");
+    let safe = vsp::fresh(row).map(|form| form.to_bytes());
+    assert_eq!(safe, expected.map(|i| form(&i)).map_err(from_refusal), "the fresh instruction of row {row}");
+    answer
+}
+
+/// Checks the container with both; gives back the code.
+pub fn compare_check(container: &[u8]) -> u64 {
+    let expected = verdict_code(reference::check(container));
+    let answer = raw::check(container);
+    assert_eq!(answer, expected, "checking {}", hex(container));
+    let safe = match vsp::check(container) {
+        vsp::Verdict::Accepted => 0,
+        vsp::Verdict::Refused { number, place, index, register } => {
+            u64::from(number) | u64::from(place) << 8 | u64::from(index) << 16 | u64::from(register) << 32
+        }
+    };
+    assert_eq!(safe, expected, "checking {}", hex(container));
+    answer
+}
+
+/// Checks the container with both, and that the reference gives the verdict it was made for.
+pub fn compare_check_as(container: &[u8], verdict: Verdict) -> u64 {
+    assert_eq!(reference::check(container), verdict, "the reference on {}", hex(container));
+    compare_check(container)
+}
+
+/// Upper-case digits without spaces.
+pub fn hex(bytes: &[u8]) -> String {
+    bytes.iter().map(|byte| format!("{byte:02X}")).collect()
+}
