@@ -24,7 +24,7 @@ ghost use Rattle.verifier.specs.Verdict.{verdict-outcome, first, judge-w
 const ENTRY_MISSING: u8 = 23;
 
 // The word at index i, read.
-pub(crate) fn reading_at(t: &Table, words: &[u8], n: usize, i: usize) -> Reading
+pub fn reading_at(t: &Table, words: &[u8], n: usize, i: usize) -> Reading
     requires { ⌜ Worded (now words) n × (i < n) × (now t ≡ table) ⌝ }
     ensures { λ r. ⌜ reading r ≡ read (eight (now (words .entry)) i) ⌝ }
 {

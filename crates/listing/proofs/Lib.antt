@@ -1,0 +1,4 @@
+pub mod TextLaws
+pub mod LineLaws
+pub mod NumberLaws
+pub mod ListingLaws

@@ -1,0 +1,112 @@
+-- What a listing has, by its verdict, and how it is put into a buffer. Assumes nothing.
+use mathlib.Core.Path.{_≡_, refl, sym, ap, _∙_, subst}
+use mathlib.Core.Bool.{Bool, true, false}
+use mathlib.Core.List.{List, [], _∷_, _++_}
+use Prim.Native.Nat.{ℕ, _+_, _-_, _*_, _<_, _≤_}
+use native.Mathlib.Omega.{arith}
+use borrow.Author.Tests.{le-leb, lt-leb, leb-true, leb-false}
+use lib.Dec.{T, leb}
+use lib.ListN.{length, take, drop}
+use lib.Pow.{areBytes}
+use Rattle.bits.specs.Fields.{choose}
+use Rattle.bits.specs.Outcomes.{Outcome, gives, refuses, passes, _then_}
+use Rattle.bits.proofs.OutcomeLaws.{never, then-passed, then-refused}
+use Rattle.container.specs.declared.header.Header.{Header}
+use Rattle.container.specs.Container.{header-length, count-of, words-of, annotations-start}
+use Rattle.container.specs.Opening.{header-of, open-outcome, Opens}
+use Rattle.container.specs.Words.{count-in, open-count}
+use Rattle.container.proofs.OpeningLaws.{sized, opened, words-to}
+use Rattle.verifier.specs.declared.verdict.Finding.{Finding}
+use Rattle.verifier.specs.Program.{program-of, Worded}
+use Rattle.verifier.specs.Verdict.{Judgement, first, judge-opening, judge-word, judge-program, verdict-of}
+use Rattle.verifier.proofs.VerdictLaws.{both, then-assoc}
+use Rattle.verifier.proofs.PassLaws.{worded}
+use Rattle.listing.specs.Text.{Put}
+use Rattle.listing.specs.Listing.{lines, verdict-line, all-read, lists, where-read, listing, longest-line, longest-verdict, room, Written}
+use Rattle.listing.proofs.TextLaws.{put-next, same-text}
+use Rattle.listing.proofs.NumberLaws.{early, late, opens}
+
+module _ (s : List ℕ) where
+  -- the verdict goes on where all words are read
+  goes-on : verdict-of s ≡ (all-read s then judge-program (program-of s))
+  unfolding verdict-of all-read
+  goes-on = sym (then-assoc (judge-opening (open-outcome s)) (first (judge-word (words-of s)) (count-of s)) (judge-program (program-of s)))
+
+  -- a verdict that comes after reading, and one that does not
+  module _ (t : T (areBytes s)) where
+    pub read-by : lists (verdict-of s) ≡ true → all-read s ≡ passes
+    unfolding lists
+    read-by e = go (all-read s) refl
+      where
+        go : (a : Judgement) → all-read s ≡ a → all-read s ≡ passes
+        go (gives tt) q = q
+        go (refuses f) q =
+            let v : verdict-of s ≡ refuses f = goes-on ∙ then-refused (judge-program (program-of s)) q in
+            absurd (omega (arith, early s f q, leb-true 20 (f .number) (sym (ap lists v) ∙ e)))
+
+    pub unread-by : lists (verdict-of s) ≡ false → (f : Finding) × (all-read s ≡ refuses f)
+    unfolding lists
+    unread-by e = go (all-read s) refl
+      where
+        differ : _≡_ {A = Bool} true false → ⊥
+        differ e = let z : _≡_ {A = ℕ} 0 1 = cc in omega arith
+
+        passed : all-read s ≡ passes → (v : Judgement) → verdict-of s ≡ v → ⊥
+        passed q (gives tt) w = differ (sym (ap lists w) ∙ e)
+        passed q (refuses f) w = omega (arith, late s q t w, leb-false 20 (f .number) (sym (ap lists w) ∙ e))
+
+        go : (a : Judgement) → all-read s ≡ a → (f : Finding) × (all-read s ≡ refuses f)
+        go (gives tt) q = absurd (passed q (verdict-of s) refl)
+        go (refuses f) q = (f, q)
+
+  -- the listing where all words are read, and where not
+  pub listing-read : all-read s ≡ passes → listing s ≡ lines (words-of s) (count-of s) ++ verdict-line (verdict-of s)
+  unfolding listing
+  listing-read e = rw e
+
+  pub listing-unread : {f : Finding} → all-read s ≡ refuses f → listing s ≡ verdict-line (verdict-of s)
+  unfolding listing
+  listing-unread e = rw e
+
+-- a container whose words all read, lent with its count
+module _ (s : List ℕ) {n : ℕ} (all : all-read s ≡ passes) (counts : n ≡ open-count s) where
+  header : (h : Header) × (open-outcome s ≡ gives h)
+  header = go (open-outcome s) refl
+    where
+      go : (o : Outcome ℕ Header) → open-outcome s ≡ o → (h : Header) × (open-outcome s ≡ gives h)
+      go (gives h) e = (h, e)
+      go (refuses r) e = never (sym (ap judge-opening e) ∙ opens s all)
+
+  opening : Opens s
+  opening = opened s (header .1)
+
+  pub counted : n ≡ count-of s
+  unfolding open-count
+  counted = counts ∙ ap count-in opening
+
+  abbrev Words : List ℕ
+  Words = take (annotations-start n - header-length) (drop header-length s)
+
+  pub words-inside : annotations-start n ≤ length s
+  words-inside = omega (arith, sized s opening .long, counted)
+
+  pub words-worded : Worded Words n
+  words-worded = subst (λ (m : ℕ). Worded (take (annotations-start m - header-length) (drop header-length s)) m) (sym counted) (worded s (header-of s) opening)
+
+  pub words-lines : lines Words n ≡ lines (words-of s) (count-of s)
+  words-lines =
+      ap (λ (w : List ℕ). lines w n) (words-to s opening (annotations-start n) (ap annotations-start counted)) ∙ ap (lines (words-of s)) counted
+
+-- what is written, by the buffer's room
+module _ (s before : List ℕ) {n : ℕ} (counts : n ≡ open-count s) where
+  pub small : length before < longest-line * n + longest-verdict → Written s before before 0
+  unfolding room
+  small h =
+      let l : length before < room s = subst (λ (m : ℕ). length before < longest-line * m + longest-verdict) counts h in
+      same-text (sym (ap (λ (b : Bool). choose b (listing s) []) (lt-leb (room s) (length before) l))) (record { counts = refl; fills = refl })
+
+  pub large : longest-line * n + longest-verdict ≤ length before → {after : List ℕ} {r : ℕ} → Put (listing s) before after r → Written s before after r
+  unfolding room
+  large h p =
+      let l : room s ≤ length before = subst (λ (m : ℕ). longest-line * m + longest-verdict ≤ length before) counts h in
+      same-text (sym (ap (λ (b : Bool). choose b (listing s) []) (le-leb (room s) (length before) l))) p

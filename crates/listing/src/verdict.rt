@@ -1,0 +1,52 @@
+// The line of a verdict.
+use crate::text::put_byte;
+use crate::text::put_spaced;
+use crate::text::put_text;
+use verifier::verdict::Finding;
+use verifier::verdict::Verdict;
+ghost use mathlib.Core.Path.{_≡_};
+ghost use Prim.Native.Nat.{_≤_};
+ghost use lib.ListN.{length};
+ghost use Rattle.bits.specs.Outcomes.{refuses};
+ghost use Rattle.verifier.specs.Verdict.{verdict-outcome};
+ghost use Rattle.listing.specs.Text.{Put};
+ghost use Rattle.listing.specs.Listing.{lists, verdict-line, longest-verdict};
+
+// The most bytes that the line of a verdict has.
+pub(crate) const LONGEST: usize = 7 + 1 + 2 + 1 + 4 + 1 + 2 + 1;
+
+// The lowest number of a refusal that comes after all words were read.
+const WORDS_READ: u8 = 20;
+
+// Whether a verdict comes after all words were read.
+pub(crate) fn all_read(v: Verdict) -> bool
+    ensures { λ r. ⌜ r ≡ lists (verdict-outcome v) ⌝ }
+{
+    match v {
+        Verdict::Accepted => true,
+        Verdict::Refused(f) => WORDS_READ <= f.number,
+    }
+}
+
+// Number, index, register.
+fn put_finding(f: Finding, out: &mut [u8]) -> usize
+    requires { ⌜ longest-verdict ≤ length (now out) ⌝ }
+    ensures { λ r. ⌜ Put (verdict-line (refuses f)) (now (out .entry)) (now (out .exit)) r × (r ≤ longest-verdict) ⌝ }
+{
+    let mut at = put_text(b"REFUSED", out);
+    at += put_spaced(f.number as u64, 10, 2, &mut out[at..]);
+    at += put_spaced(f.index as u64, 10, 4, &mut out[at..]);
+    at += put_spaced(f.register as u64, 10, 2, &mut out[at..]);
+    at += put_byte(b'\n', &mut out[at..]);
+    at
+}
+
+pub(crate) fn put_verdict(v: Verdict, out: &mut [u8]) -> usize
+    requires { ⌜ longest-verdict ≤ length (now out) ⌝ }
+    ensures { λ r. ⌜ Put (verdict-line (verdict-outcome v)) (now (out .entry)) (now (out .exit)) r × (r ≤ longest-verdict) ⌝ }
+{
+    match v {
+        Verdict::Accepted => put_text(b"ACCEPTED\n", out),
+        Verdict::Refused(f) => put_finding(f, out),
+    }
+}
