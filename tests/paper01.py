@@ -290,6 +290,24 @@ def check(data):
     return None
 
 
+def listing(data):
+    """The lister's output for a parcel's bytes."""
+    lines = []
+    if opening(data) is None:
+        n = int.from_bytes(data[6:8], 'little')
+        words = [data[16 + 8 * i:24 + 8 * i] for i in range(n)]
+        read_words = [read(w) for w in words]
+        if all(r[0] == 'read' for r in read_words):
+            lines = [f'{i:04d} {int.from_bytes(w, "little"):016X} {ROWS[r[1]]["name"]}' for i, (w, r) in enumerate(zip(words, read_words))]
+    verdict = check(data)
+    if verdict is None:
+        lines.append('ACCEPTED')
+    else:
+        number, _, index, register = verdict
+        lines.append(f'REFUSED {number:02d} {index:04d} {register:02d}')
+    return ''.join(line + '\n' for line in lines)
+
+
 def members_of(registers):
     return sum(1 << r for r in registers)
 
