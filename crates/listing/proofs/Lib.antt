@@ -2,4 +2,5 @@ pub mod TextLaws
 pub mod LineLaws
 pub mod NumberLaws
 pub mod ListingLaws
+pub mod AskedLaws
 pub mod CutLaws

@@ -28,7 +28,7 @@ use Rattle.listing.proofs.NumberLaws.{early, late, opens}
 
 module _ (s : List ℕ) where
   -- the verdict goes on where all words are read
-  goes-on : verdict-of s ≡ (all-read s then judge-program (program-of s))
+  pub goes-on : verdict-of s ≡ (all-read s then judge-program (program-of s))
   unfolding verdict-of all-read
   goes-on = sym (then-assoc (judge-opening (open-outcome s)) (first (judge-word (words-of s)) (count-of s)) (judge-program (program-of s)))
 

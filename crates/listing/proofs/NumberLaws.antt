@@ -31,10 +31,10 @@ use Rattle.listing.specs.Listing.{all-read}
 
 -- what holds of each refusal of both parts holds of each refusal of the whole
 module _ {R : Type 0} (P : R → Type 0) where
-  abbrev Refusals : {A : Type 0} → Outcome R A → Type 0
+  abbrev pub Refusals : {A : Type 0} → Outcome R A → Type 0
   Refusals o = (r : R) → o ≡ refuses r → P r
 
-  told : {A : Type 0} {x y : R} → _≡_ {A = Outcome R A} (refuses x) (refuses y) → x ≡ y
+  pub told : {A : Type 0} {x y : R} → _≡_ {A = Outcome R A} (refuses x) (refuses y) → x ≡ y
   told e = cc
 
   of-then : {A : Type 0} (a : Outcome R (Unit {0})) (b : Outcome R A) → Refusals a → Refusals b → Refusals (a then b)
@@ -52,16 +52,16 @@ module _ {R : Type 0} (P : R → Type 0) where
   of-gives : {A : Type 0} (a : A) → Refusals (gives a)
   of-gives a r e = never (sym e)
 
-abbrev Early : ℕ → Type 0
+abbrev pub Early : ℕ → Type 0
 Early n = n < 20
 
-abbrev EarlyRefusal : Refusal → Type 0
+abbrev pub EarlyRefusal : Refusal → Type 0
 EarlyRefusal f = f .number < 20
 
 abbrev EarlyFinding : Finding → Type 0
 EarlyFinding f = f .number < 20
 
-opening-early : (s : List ℕ) → Refusals Early (open-outcome s)
+pub opening-early : (s : List ℕ) → Refusals Early (open-outcome s)
 unfolding open-outcome
 opening-early s =
     on Early (leb header-length (length s)) 12 (lit< tt)
@@ -79,7 +79,7 @@ judge-early k vs =
     (on EarlyRefusal (leb slot-count (first-refused 6 k vs)) (refusal 6 (low-of (first-refused 6 k vs))) (lit< tt)
     (of-require EarlyRefusal (leb slot-count (first-refused 7 k vs)) (refusal 7 (low-of (first-refused 7 k vs) / 8)) (lit< tt))))
 
-read-early : (bs : List ℕ) → Refusals EarlyRefusal (read bs)
+pub read-early : (bs : List ℕ) → Refusals EarlyRefusal (read bs)
 unfolding read read-row
 read-early bs =
     let w = little bs in
@@ -117,7 +117,7 @@ module _ (s : List ℕ) (all : all-read s ≡ passes) where
   unfolding all-read
   opens = both {a = judge-opening (open-outcome s)} {b = first (judge-word (words-of s)) (count-of s)} all .0
 
-  reads : (i : ℕ) → i < count-of s → judge-word (words-of s) i ≡ passes
+  pub reads : (i : ℕ) → i < count-of s → judge-word (words-of s) i ≡ passes
   unfolding all-read
   reads = first-of (judge-word (words-of s)) (count-of s) (both {a = judge-opening (open-outcome s)} {b = first (judge-word (words-of s)) (count-of s)} all .1)
 

@@ -1,3 +1,4 @@
 pub mod Text
 pub mod Listing
+pub mod Asked
 pub mod Cut

@@ -1,0 +1,107 @@
+-- The listing is what the paper asks, in terms of well-formed containers, and no digit of a verdict is lost. Assumes nothing.
+use mathlib.Core.Path.{_≡_, refl, sym, ap, _∙_, subst}
+use mathlib.Core.List.{List, _++_}
+use Prim.Native.Nat.{ℕ, _<_, _≤_}
+use native.Mathlib.Omega.{arith}
+use lib.Dec.{T, lit<}
+use lib.Pow.{areBytes}
+use Rattle.bits.specs.Outcomes.{Outcome, gives, refuses, passes, _then_}
+use Rattle.bits.proofs.OutcomeLaws.{never, then-refused}
+use Rattle.isa.specs.declared.instruction.Instruction.{Instruction}
+use Rattle.isa.specs.declared.answer.Refusal.{Refusal}
+use Rattle.isa.specs.Reader.{read}
+use Rattle.container.specs.declared.header.Header.{Header}
+use Rattle.container.specs.Container.{most-instructions, count-of, words-of, eight}
+use Rattle.container.specs.Opening.{open-outcome, Opens}
+use Rattle.container.proofs.OpeningLaws.{sized, opened}
+use Rattle.verifier.specs.declared.verdict.Finding.{Finding}
+use Rattle.verifier.specs.Program.{Program, program-of, WellFormed}
+use Rattle.verifier.specs.Verdict.{Judgement, first, judge-opening, judge-reading, judge-word, judge-program, verdict-of}
+use Rattle.verifier.specs.Reasons.{Wrong, entry-lacks, annotation-lacks, runs-off, successor-lacks, Reason, unopened, unreadable, wrong}
+use Rattle.verifier.proofs.VerdictLaws.{neither, first-to, first-refused}
+use Rattle.verifier.proofs.ReasonLaws.{reason}
+use Rattle.listing.specs.Listing.{all-read, listing}
+use Rattle.listing.specs.Asked.{Shown, ListedAsAsked}
+use Rattle.listing.proofs.NumberLaws.{Refusals, told, Early, EarlyRefusal, opening-early, read-early, opens, reads}
+use Rattle.listing.proofs.ListingLaws.{goes-on, listing-read, listing-unread}
+
+-- what passes is well-formed, and what is well-formed passes
+opening-of : (s : List ℕ) → judge-opening (open-outcome s) ≡ passes → Opens s
+opening-of s e = go (open-outcome s) refl e
+  where
+    go : (o : Outcome ℕ Header) → open-outcome s ≡ o → judge-opening o ≡ passes → Opens s
+    go (gives h) p q = opened s p
+    go (refuses n) p q = never q
+
+word-of : (words : List ℕ) (i : ℕ) → judge-word words i ≡ passes → (x : Instruction) × (read (eight words i) ≡ gives x)
+word-of words i e = go (read (eight words i)) refl e
+  where
+    go : (r : Outcome Refusal Instruction) → read (eight words i) ≡ r → judge-reading i r ≡ passes → (x : Instruction) × (read (eight words i) ≡ gives x)
+    go (gives x) p q = (x, p)
+    go (refuses f) p q = never q
+
+module _ (s : List ℕ) where
+  formed : all-read s ≡ passes → WellFormed s
+  formed e = record { opens = opening-of s (opens s e); reads = λ i l. word-of (words-of s) i (reads s e i l) }
+
+  all-of : WellFormed s → all-read s ≡ passes
+  unfolding all-read
+  all-of f = neither (ap judge-opening (f .opens)) (first-to (judge-word (words-of s)) (count-of s) (λ i l. ap (judge-reading i) (f .reads i l .1)))
+
+-- the digits of a refusal, by its reason
+wrong-shown : (p : Program) → p .count ≤ most-instructions → {f : Finding} → Wrong p f → Shown f
+wrong-shown p h (entry-lacks r m) = record { number = lit< tt; index = lit< tt; register = omega (arith, m .is) }
+wrong-shown p h (annotation-lacks i r l m) = record { number = lit< tt; index = omega arith; register = omega (arith, m .is) }
+wrong-shown p h (runs-off i z l q o) = record { number = lit< tt; index = omega arith; register = lit< tt }
+wrong-shown p h (successor-lacks i j r l q b m) = record { number = lit< tt; index = omega arith; register = omega (arith, m .is) }
+
+unopened-shown : (o : Outcome ℕ Header) → Refusals Early o → {f : Finding} → judge-opening o ≡ refuses f → Shown f
+unopened-shown (gives h) p e = never (sym e)
+unopened-shown (refuses n) p e = subst Shown (told Shown e) (record { number = omega (arith, p n refl); index = lit< tt; register = lit< tt })
+
+unread-shown : (i : ℕ) → i < 10000 → (o : Outcome Refusal Instruction) → Refusals EarlyRefusal o → {f : Finding} → judge-reading i o ≡ refuses f → Shown f
+unread-shown i h (gives x) p e = never (sym e)
+unread-shown i h (refuses g) p e = subst Shown (told Shown e) (record { number = omega (arith, p g refl); index = h; register = lit< tt })
+
+module _ (s : List ℕ) where
+  few : Opens s → count-of s ≤ most-instructions
+  few o = sized s o .few
+
+  -- before all words are read
+  early-shown : {f : Finding} → all-read s ≡ refuses f → Shown f
+  unfolding all-read _then_
+  early-shown {f} e = go (judge-opening (open-outcome s)) refl e
+    where
+      go : (a : Judgement) → judge-opening (open-outcome s) ≡ a → (a then first (judge-word (words-of s)) (count-of s)) ≡ refuses f → Shown f
+      go (gives tt) o q =
+          let w = first-refused (judge-word (words-of s)) (count-of s) q in
+          unread-shown (w .0) (omega (arith, w .1, few (opening-of s o))) (read (eight (words-of s) (w .0))) (read-early (eight (words-of s) (w .0))) (w .2)
+      go (refuses g) o q = unopened-shown (open-outcome s) (opening-early s) (o ∙ q)
+
+  -- and after
+  late-shown : all-read s ≡ passes → {f : Finding} → Reason s f → Shown f
+  late-shown all (unopened n o) = unopened-shown (open-outcome s) (opening-early s) (ap judge-opening o)
+  late-shown all (unreadable i g l e) = never (sym (ap (judge-reading i) e) ∙ reads s all i l)
+  late-shown all (wrong f w) = wrong-shown (program-of s) (few (opening-of s (opens s all))) w
+
+  shown : T (areBytes s) → (f : Finding) → verdict-of s ≡ refuses f → Shown f
+  shown t f e = go (all-read s) refl
+    where
+      go : (a : Judgement) → all-read s ≡ a → Shown f
+      go (gives tt) q = late-shown q (reason s t e)
+      go (refuses g) q = early-shown (q ∙ sym (goes-on s ∙ then-refused (judge-program (program-of s)) q) ∙ e)
+
+  otherwise : (¬ WellFormed s) → (f : Finding) × (all-read s ≡ refuses f)
+  otherwise n = go (all-read s) refl
+    where
+      go : (a : Judgement) → all-read s ≡ a → (f : Finding) × (all-read s ≡ refuses f)
+      go (gives tt) q = absurd (n (formed s q))
+      go (refuses f) q = (f, q)
+
+pub listed-as-asked : (s : List ℕ) → T (areBytes s) → ListedAsAsked s (listing s)
+listed-as-asked s t = record {
+  well-formed = λ f. listing-read s (all-of s f);
+  few = λ f. few s (f .opens);
+  otherwise = λ n. listing-unread s (otherwise s n .1);
+  shown = shown s t;
+}
