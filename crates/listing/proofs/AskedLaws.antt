@@ -1,6 +1,6 @@
 -- The listing is what the paper asks, in terms of well-formed containers, and no digit of a verdict is lost. Assumes nothing.
 use mathlib.Core.Path.{_≡_, refl, sym, ap, _∙_, subst}
-use mathlib.Core.List.{List, _++_}
+use mathlib.Core.List.{List}
 use Prim.Native.Nat.{ℕ, _<_, _≤_}
 use native.Mathlib.Omega.{arith}
 use lib.Dec.{T, lit<}
@@ -13,33 +13,20 @@ use Rattle.isa.specs.Reader.{read}
 use Rattle.container.specs.declared.header.Header.{Header}
 use Rattle.container.specs.Container.{most-instructions, count-of, words-of, eight}
 use Rattle.container.specs.Opening.{open-outcome, Opens}
-use Rattle.container.proofs.OpeningLaws.{sized, opened}
+use Rattle.container.proofs.OpeningLaws.{sized}
 use Rattle.verifier.specs.declared.verdict.Finding.{Finding}
 use Rattle.verifier.specs.Program.{Program, program-of, WellFormed}
 use Rattle.verifier.specs.Verdict.{Judgement, first, judge-opening, judge-reading, judge-word, judge-program, verdict-of}
 use Rattle.verifier.specs.Reasons.{Wrong, entry-lacks, annotation-lacks, runs-off, successor-lacks, Reason, unopened, unreadable, wrong}
 use Rattle.verifier.proofs.VerdictLaws.{neither, first-to, first-refused}
 use Rattle.verifier.proofs.ReasonLaws.{reason}
+use Rattle.verifier.proofs.Demand3.{opening-of, word-of}
 use Rattle.listing.specs.Listing.{all-read, listing}
 use Rattle.listing.specs.Asked.{Shown, ListedAsAsked}
 use Rattle.listing.proofs.NumberLaws.{Refusals, told, Early, EarlyRefusal, opening-early, read-early, opens, reads}
 use Rattle.listing.proofs.ListingLaws.{goes-on, listing-read, listing-unread}
 
 -- what passes is well-formed, and what is well-formed passes
-opening-of : (s : List ℕ) → judge-opening (open-outcome s) ≡ passes → Opens s
-opening-of s e = go (open-outcome s) refl e
-  where
-    go : (o : Outcome ℕ Header) → open-outcome s ≡ o → judge-opening o ≡ passes → Opens s
-    go (gives h) p q = opened s p
-    go (refuses n) p q = never q
-
-word-of : (words : List ℕ) (i : ℕ) → judge-word words i ≡ passes → (x : Instruction) × (read (eight words i) ≡ gives x)
-word-of words i e = go (read (eight words i)) refl e
-  where
-    go : (r : Outcome Refusal Instruction) → read (eight words i) ≡ r → judge-reading i r ≡ passes → (x : Instruction) × (read (eight words i) ≡ gives x)
-    go (gives x) p q = (x, p)
-    go (refuses f) p q = never q
-
 module _ (s : List ℕ) where
   formed : all-read s ≡ passes → WellFormed s
   formed e = record { opens = opening-of s (opens s e); reads = λ i l. word-of (words-of s) i (reads s e i l) }

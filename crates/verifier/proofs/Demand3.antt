@@ -21,14 +21,15 @@ use Rattle.verifier.proofs.WalkLaws.{sound, complete, all-supplied}
 use Rattle.verifier.proofs.VerdictLaws.{both, neither, first-of, first-to}
 use Rattle.verifier.proofs.ProgramLaws.{passes-of, passes-to, adds-dec, needs-fact, claims-fact, goes-on}
 
-opening-of : (s : List ℕ) → judge-opening (open-outcome s) ≡ passes → Opens s
+-- what passes opens, and its words read
+pub opening-of : (s : List ℕ) → judge-opening (open-outcome s) ≡ passes → Opens s
 opening-of s e = go (open-outcome s) refl e
   where
     go : (o : Outcome ℕ Header) → open-outcome s ≡ o → judge-opening o ≡ passes → Opens s
     go (gives h) p q = opened s p
     go (refuses n) p q = never q
 
-word-of : (words : List ℕ) (i : ℕ) → judge-word words i ≡ passes → (x : Instruction) × (read (eight words i) ≡ gives x)
+pub word-of : (words : List ℕ) (i : ℕ) → judge-word words i ≡ passes → (x : Instruction) × (read (eight words i) ≡ gives x)
 word-of words i e = go (read (eight words i)) refl e
   where
     go : (r : Outcome Refusal Instruction) → read (eight words i) ≡ r → judge-reading i r ≡ passes → (x : Instruction) × (read (eight words i) ≡ gives x)
