@@ -1,6 +1,6 @@
 ghost use mathlib.Core.Path.{_≡_};
-ghost use Prim.Native.Nat.{_<_};
-ghost use lib.ListN.{length};
+ghost use Prim.Native.Nat.{_+_, _*_, _<_, _≤_};
+ghost use lib.ListN.{length, getD};
 ghost use Rattle.bits.specs.Bytes.{little, little-bytes};
 
 // A byte as a wider number.
@@ -10,13 +10,21 @@ pub fn wide(x: u8) -> u64
     x as u64
 }
 
+// The number that four bytes give, the lowest first.
+fn load32(b: &[u8], at: usize) -> u64
+    requires { ⌜ at + 4 ≤ length (now b) ⌝ }
+    ensures { λ r. ⌜ (r ≡ getD (now (b .entry)) at 0 + 256 * getD (now (b .entry)) (at + 1) 0
+        + 65536 * getD (now (b .entry)) (at + 2) 0 + 16777216 * getD (now (b .entry)) (at + 3) 0) × (r < 4294967296) ⌝ }
+{
+    wide(b[at]) + 256 * wide(b[at + 1]) + 65536 * wide(b[at + 2]) + 16777216 * wide(b[at + 3])
+}
+
 // The number that eight bytes give, the lowest first.
 pub fn load64(b: &[u8]) -> u64
     requires { ⌜ length (now b) ≡ 8 ⌝ }
     ensures { λ r. ⌜ r ≡ little (now (b .entry)) ⌝ }
 {
-    let high = wide(b[4]) + 256 * (wide(b[5]) + 256 * (wide(b[6]) + 256 * wide(b[7])));
-    wide(b[0]) + 256 * (wide(b[1]) + 256 * (wide(b[2]) + 256 * (wide(b[3]) + 256 * high)))
+    load32(b, 0) + 4294967296 * load32(b, 4)
 }
 
 // Stores a number as eight bytes, the lowest first.

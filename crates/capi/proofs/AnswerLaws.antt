@@ -6,7 +6,7 @@ use Prim.Native.Nat.{ℕ, _<_, _≤_}
 use lib.ListN.{length, getD}
 use borrow.Author.Tests.{eq-eqb, ne-eqb, lt-ltb, le-ltb}
 use Rattle.bits.specs.Outcomes.{Outcome, gives, refuses, passes, _then_}
-use Rattle.isa.specs.Rows.{row-count}
+use Rattle.rows.specs.Rows.{row-count}
 use Rattle.isa.specs.Writer.{write, stored}
 use Rattle.isa.specs.declared.instruction.Instruction.{Instruction}
 use Rattle.isa.specs.declared.answer.Refusal.{Refusal}

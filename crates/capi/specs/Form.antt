@@ -9,7 +9,7 @@ use lib.ListN.{length, getD}
 use Rattle.bits.specs.Bytes.{little-bytes}
 use Rattle.bits.specs.Signed.{unsigned, signed}
 use Rattle.bits.specs.Outcomes.{Outcome, gives, refuses, require, _then_}
-use Rattle.isa.specs.Rows.{row-count}
+use Rattle.rows.specs.Rows.{row-count}
 use Rattle.isa.specs.Answers.{refusal}
 use Rattle.isa.specs.Writer.{fields, write, kept-or}
 use Rattle.isa.specs.Instructions.{word-of}

@@ -14,16 +14,16 @@ use Rattle.bits.specs.Fields.{choose}
 use Rattle.bits.specs.Outcomes.{passes, _then_}
 use Rattle.bits.proofs.Every.{every, at, and-l, and-r}
 use Rattle.bits.proofs.OutcomeLaws.{then-gives, required}
-use Rattle.isa.specs.Kinds.{Kind, Range, about, width, within, absent, source, offset, second, register, half-mask, opcode, page, flow}
-use Rattle.isa.specs.Sources.{source-legal}
-use Rattle.isa.specs.Rows.{Row, Modifier, rows, row-of, no-row, row-count}
-use Rattle.isa.specs.Layout.{Field, field, layout, modifier-at, modifier-lows, modifier-field, source-field, where-has, slot-count, no-field, at-page}
+use Rattle.rows.specs.Kinds.{Kind, Range, about, width, within, absent, source, offset, second, register, half-mask, opcode, page, flow}
+use Rattle.rows.specs.Sources.{source-legal}
+use Rattle.rows.specs.Rows.{Row, Modifier, rows, row-of, no-row, row-count}
+use Rattle.rows.specs.Layout.{Field, field, layout, modifier-at, modifier-lows, modifier-field, source-field, where-has, slot-count, no-field, at-page}
 use Rattle.isa.specs.Instructions.{offset-number, offset-of, second-number}
 use Rattle.isa.specs.Legality.{legal, refused-by, scan, first-refused, none-refused, judge}
 use Rattle.isa.specs.Answers.{refusal}
 use Rattle.isa.specs.Demand2.{Allowed, Each, Destined, Sourced, InRange, Offset}
 use Rattle.isa.specs.declared.instruction.Instruction.{Instruction}
-use Rattle.isa.proofs.TableLaws.{in-table, layout-length}
+use Rattle.rows.proofs.TableLaws.{in-table, layout-length}
 use Rattle.bits.specs.Signed.{unsigned, signed}
 use Rattle.bits.proofs.SignedLaws.{back-again}
 

@@ -7,9 +7,9 @@ use lib.Dec.{T}
 use lib.ListN.{length}
 use Rattle.bits.specs.Fields.{fit}
 use Rattle.bits.specs.Outcomes.{Outcome, gives, refuses, passes, _then_}
-use Rattle.isa.specs.Rows.{Row, rows, no-row, row-count}
-use Rattle.isa.specs.Layout.{layout, modifier-at}
-use Rattle.isa.specs.Sources.{meaning}
+use Rattle.rows.specs.Rows.{Row, rows, no-row, row-count}
+use Rattle.rows.specs.Layout.{layout, modifier-at}
+use Rattle.rows.specs.Sources.{meaning}
 use Rattle.bits.specs.Signed.{unsigned}
 use Rattle.isa.specs.Instructions.{numbers}
 use Rattle.isa.specs.Legality.{scan, judge}
@@ -19,7 +19,7 @@ use Rattle.isa.specs.Defaults.{default-instruction}
 use Rattle.isa.specs.Demand2.{LegalRecord}
 use Rattle.isa.specs.declared.answer.Refusal.{Refusal}
 use Rattle.bits.proofs.Every.{every, at}
-use Rattle.isa.proofs.TableLaws.{in-table}
+use Rattle.rows.proofs.TableLaws.{in-table}
 use Rattle.isa.proofs.LegalRecords.{judged-legal}
 use Rattle.isa.proofs.RoundTrip.{written, stored-word, read-written}
 

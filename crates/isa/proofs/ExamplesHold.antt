@@ -4,9 +4,9 @@ use mathlib.Core.Path.{refl}
 use Rattle.bits.specs.Fields.{join, fit, assigned}
 use Rattle.bits.specs.Bytes.{little, little-bytes}
 use Rattle.bits.specs.Sets.{lowest-from}
-use Rattle.isa.specs.Rows.{rows}
-use Rattle.isa.specs.Layout.{layout, modifier-at}
-use Rattle.isa.specs.Sources.{meaning}
+use Rattle.rows.specs.Rows.{rows}
+use Rattle.rows.specs.Layout.{layout, modifier-at}
+use Rattle.rows.specs.Sources.{meaning}
 use Rattle.bits.specs.Signed.{unsigned, signed}
 use Rattle.isa.specs.Instructions.{numbers}
 use Rattle.isa.specs.Legality.{scan, judge}

@@ -11,12 +11,12 @@ use borrow.Author.Tests.{lt-ltb}
 use Rattle.bits.specs.Fields.{Slot, fit}
 use Rattle.bits.specs.Outcomes.{passes, _then_}
 use Rattle.bits.proofs.FieldLaws.{Fit, none, some, fit-rule, fit-at}
-use Rattle.isa.specs.Kinds.{width, source, offset, second, register, flow}
-use Rattle.isa.specs.Rows.{Row, row-of, row-count}
-use Rattle.isa.specs.Layout.{Field, field, layout, modifier-at, modifier-lows, slots, slot-of, slot-count, no-field, field-of, width-of, where-has, at-s0, at-s1, at-offset, at-m8, at-m10, at-m11, at-s2, at-s3, at-m24, at-m26, at-m28, at-m30, at-m32, at-m34, at-m35, at-m36, at-m37, at-m38, at-m39, at-register, at-half-mask, at-page, at-flow}
+use Rattle.rows.specs.Kinds.{width, source, offset, second, register, flow}
+use Rattle.rows.specs.Rows.{Row, row-of, row-count}
+use Rattle.rows.specs.Layout.{Field, field, layout, modifier-at, modifier-lows, slots, slot-of, slot-count, no-field, field-of, width-of, where-has, at-s0, at-s1, at-offset, at-m8, at-m10, at-m11, at-s2, at-s3, at-m24, at-m26, at-m28, at-m30, at-m32, at-m34, at-m35, at-m36, at-m37, at-m38, at-m39, at-register, at-half-mask, at-page, at-flow}
 use Rattle.isa.specs.Instructions.{numbers}
 use Rattle.isa.specs.declared.instruction.Instruction.{Instruction}
-use Rattle.isa.proofs.RowLaws.{slots-length, slot-width}
+use Rattle.rows.proofs.RowLaws.{slots-length, slot-width}
 use Rattle.isa.proofs.Declared.{All, all-at, Spared, spared-legal, Unrefused, unrefused, judged-none, Good, good, ordinary, room, allowed, Fair, fair-unrefused, fair-source, fair-free, fair-mask, fair-modifier, opcode-room, second-room, offset-room, room-offset, source-room, room-source, register-room, mask-room, room-destined, destined-mask, flow-room}
 use Rattle.isa.specs.Writer.{judge-instruction}
 use Rattle.isa.specs.Demand2.{Allowed, Beside, Sourced, LegalRecord, modifier-values}

@@ -7,9 +7,9 @@ use lib.ListN.{length, getD, drop}
 use lib.Seq.{drop-cons, drop-length}
 use borrow.Author.Tests.{eq-eqb, ne-eqb, le-leb, lt-leb}
 use Rattle.bits.specs.Outcomes.{refuses, passes, _then_}
-use Rattle.isa.specs.Kinds.{about, within}
-use Rattle.isa.specs.Sources.{source-legal}
-use Rattle.isa.specs.Layout.{Field, slot-count, low-of}
+use Rattle.rows.specs.Kinds.{about, within}
+use Rattle.rows.specs.Sources.{source-legal}
+use Rattle.rows.specs.Layout.{Field, slot-count, low-of}
 use Rattle.isa.specs.Legality.{legal, refused-by, scan, first-refused, judge}
 use Rattle.isa.specs.Answers.{refusal}
 

@@ -1,7 +1,3 @@
-pub mod TableLaws
-pub mod RowLaws
-pub mod SetOfLaws
-pub mod SourceLaws
 pub mod OffsetLaws
 pub mod LegalityLaws
 pub mod ReaderLaws
@@ -14,4 +10,5 @@ pub mod ReadableWords
 pub mod ExamplesHold
 pub mod Defaulted
 pub mod Demand2Met
-pub mod NameLaws
+pub mod QuickLaws
+pub mod FieldsLaws

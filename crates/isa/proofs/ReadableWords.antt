@@ -1,6 +1,6 @@
 -- A word is read exactly when it is readable. Assumes nothing.
 use mathlib.Core.Path.{_≡_, refl, subst}
-use mathlib.Core.Bool.{Bool, true}
+use mathlib.Core.Bool.{Bool, true, false}
 use mathlib.Core.List.{List}
 use mathlib.Core.Logic.{inl, inr}
 use Prim.Native.Nat.{ℕ, zero, suc, _*_, _<_}
@@ -10,21 +10,21 @@ use lib.Dec.{ltb, eqb}
 use lib.ListN.{length, getD}
 use lib.Pow.{pow-pos}
 use borrow.Author.Tests.{eq-eqb, lt-ltb}
-use Rattle.bits.specs.Fields.{bits}
+use Rattle.bits.specs.Fields.{bits, assigned}
 use Rattle.bits.specs.Bytes.{little}
 use Rattle.bits.specs.Outcomes.{gives, passes, _then_}
-use Rattle.isa.specs.Kinds.{Kind, width, absent, source, offset, second, register, half-mask, flow}
-use Rattle.isa.specs.Sources.{source-legal}
-use Rattle.isa.specs.Rows.{Row, rows, row-of, row-count}
-use Rattle.isa.specs.Layout.{Field, field, layout, modifier-at, modifier-lows, slot-count, field-of, fits, where-has, at-s0, at-s1, at-m8, at-m10, at-m11, at-s2, at-s3, at-m24, at-m26, at-m28, at-m30, at-m32, at-m34, at-m35, at-m36, at-m37, at-m38, at-m39, at-half-mask, at-page, at-flow}
+use Rattle.rows.specs.Kinds.{Kind, width, absent, source, offset, second, register, half-mask, flow}
+use Rattle.rows.specs.Sources.{source-legal}
+use Rattle.rows.specs.Rows.{Row, Modifier, rows, row-of, row-count}
+use Rattle.rows.specs.Layout.{Field, field, layout, modifier-at, modifier-lows, slot-count, field-of, slots, fits, where-has, at-s0, at-s1, at-m8, at-m10, at-m11, at-s2, at-s3, at-m24, at-m26, at-m28, at-m30, at-m32, at-m34, at-m35, at-m36, at-m37, at-m38, at-m39, at-half-mask, at-page, at-flow}
 use Rattle.isa.specs.Instructions.{instruction-of, numbers}
 use Rattle.isa.specs.Legality.{judge}
 use Rattle.isa.specs.declared.instruction.Instruction.{Instruction}
-use Rattle.isa.proofs.RowLaws.{one-row, four-sources}
+use Rattle.rows.proofs.RowLaws.{one-row, four-sources}
 use Rattle.isa.proofs.Declared.{All, all-at, Spared, spared-legal, Unrefused, unrefused, judged-none, good, ordinary, allowed, modifiers-each, modifier-there, Fair, fair-unrefused, fair-source, fair-free, fair-mask, fair-modifier}
-use Rattle.isa.specs.Reader.{find, read-row, read}
+use Rattle.isa.specs.Reader.{find, read-row, read-number, read}
 use Rattle.isa.specs.Demand2.{Allowed, Each, Fits, Readable}
-use Rattle.isa.proofs.RowLaws.{opcode-there, second-there}
+use Rattle.rows.proofs.RowLaws.{opcode-there, second-there}
 use Rattle.isa.proofs.ReaderLaws.{find-below, find-fits, clean-stray, stray-clean}
 use Rattle.isa.proofs.RoundTrip.{Found, found}
 
@@ -38,14 +38,11 @@ test-fits k w e = (opcode-there (row-of k) w e, second-there (row-of k) w e)
 pub no-two : (w j k : ℕ) → j < row-count → k < row-count → Fits j w → Fits k w → j ≡ k
 no-two w j k hj hk p q = one-row w j k hj hk (fits-test j w p) (fits-test k w q)
 
--- a readable word is read
-module _ (bs : List ℕ) (readable : Readable bs) where
-  abbrev w : ℕ
-  w = little bs
-
-  abbrev k : ℕ
-  k = readable .row
-
+-- a word that fits a row, has no stray bit, and whose flow, destination, modifiers and sources are legal, is read
+module _ (w k : ℕ) (in-row : k < row-count) (fit : Fits k w) (unassigned : (b : ℕ) → b < 64 → assigned (slots (row-of k)) b ≡ false → bits w b 1 ≡ 0)
+    (flow-legal : Allowed flow (bits w 59 4)) (destination-legal : row-of k .destination ≡ true → Allowed half-mask (bits w 46 2))
+    (modifiers-legal : Each (λ (m : Modifier). Allowed (m .kind) (bits w (m .low) (width (m .kind)))) (row-of k .modifiers))
+    (sources-legal : (j : ℕ) → j < row-of k .sources → source-legal (bits w 57 2) (bits w (8 * j) 8) ≡ true) where
   abbrev r : Row
   r = row-of k
 
@@ -54,25 +51,25 @@ module _ (bs : List ℕ) (readable : Readable bs) where
 
   found-row : find rows 0 w ≡ k
   found-row =
-      let f = fits-test k w (readable .fits) in
-      let l = find-below w k (readable .in-table) f in
-      let h : find rows 0 w < row-count = omega (arith, readable .in-table) in
-      readable .only (find rows 0 w) h (test-fits (find rows 0 w) w (find-fits w h))
+      let f = fits-test k w fit in
+      let l = find-below w k in-row f in
+      let h : find rows 0 w < row-count = omega (arith, in-row) in
+      no-two w (find rows 0 w) k h in-row (test-fits (find rows 0 w) w (find-fits w h)) fit
 
   md-legal : (p : ℕ) → Allowed (modifier-at (r .modifiers) p) (bits w p (width (modifier-at (r .modifiers) p)))
-  md-legal p = modifier-there (λ (q : ℕ) (x : Kind). Allowed x (bits w q (width x))) (r .modifiers) (readable .modifiers-legal) p none-there
+  md-legal p = modifier-there (λ (q : ℕ) (x : Kind). Allowed x (bits w q (width x))) (r .modifiers) modifiers-legal p none-there
     where
       none-there : Allowed absent (bits w p 0)
       none-there = rw (mod-one _)
 
   md : (p : ℕ) → Fair pg (field p (modifier-at (r .modifiers) p)) (bits w p (width (modifier-at (r .modifiers) p)))
-  md p = fair-modifier r pg (good k (readable .in-table)) p _ (md-legal p)
+  md p = fair-modifier r pg (good k in-row) p _ (md-legal p)
 
   src : (n : ℕ) → Fair pg (field (8 * n) (where-has (ltb n (r .sources)) source)) (bits w (8 * n) (width (where-has (ltb n (r .sources)) source)))
-  src n = fair-source r pg n _ (λ h. rw (lt-ltb n (r .sources) h) (readable .sources-legal n h))
+  src n = fair-source r pg n _ (λ h. rw (lt-ltb n (r .sources) h) (sources-legal n h))
 
   mask : Fair pg (field 46 (where-has (r .destination) half-mask)) (bits w 46 (width (where-has (r .destination) half-mask)))
-  mask = fair-mask r pg _ (λ e. rw e (readable .destination-legal e))
+  mask = fair-mask r pg _ (λ e. rw e (destination-legal e))
 
   fair : All (Fair pg) (layout r) (numbers (instruction-of k w))
   unfolding layout numbers
@@ -126,7 +123,7 @@ module _ (bs : List ℕ) (readable : Readable bs) where
                                                   inl refl,
                                                   (
                                                     inl refl,
-                                                    (inr (readable .flow-legal), tt),
+                                                    (inr flow-legal, tt),
                                                   ),
                                                 ),
                                               ),
@@ -157,10 +154,16 @@ module _ (bs : List ℕ) (readable : Readable bs) where
   unfolding numbers layout
   judged = judged-none k (numbers (instruction-of k w)) refl (fair-unrefused k (numbers (instruction-of k w)) fair)
 
-  pub readable-read : read bs ≡ gives (instruction-of k w)
-  unfolding read read-row _then_
-  readable-read =
-      rw (eq-eqb (length bs) 8 (readable .eight), found-row, lt-ltb k row-count (readable .in-table), clean-stray k w (readable .unassigned), judged)
+  pub read-so : read-number w ≡ gives (instruction-of k w)
+  unfolding read-row _then_
+  read-so = rw (found-row, lt-ltb k row-count in-row, clean-stray k w unassigned, judged)
+
+-- a readable word is read
+pub readable-read : (bs : List ℕ) (a : Readable bs) → read bs ≡ gives (instruction-of (a .row) (little bs))
+unfolding read _then_
+readable-read bs a =
+    rw (eq-eqb (length bs) 8 (a .eight))
+    (read-so (little bs) (a .row) (a .in-table) (a .fits) (a .unassigned) (a .flow-legal) (a .destination-legal) (a .modifiers-legal) (a .sources-legal))
 
 -- a word that is read is readable
 module _ (bs : List ℕ) (i : Instruction) (e : read bs ≡ gives i) where

@@ -16,9 +16,9 @@ use Rattle.bits.specs.Sets.{has, minus, lowest}
 use Rattle.bits.specs.Outcomes.{Outcome, gives, refuses, _then_}
 use Rattle.bits.proofs.FieldLaws.{join-split, mask-has, split-fit}
 use Rattle.bits.proofs.SetLaws.{lowest-ext, lowest-le, lowest-below, lowest-none, has-minus-test}
-use Rattle.isa.specs.Kinds.{width, second}
-use Rattle.isa.specs.Rows.{Row, rows, row-of, no-row, row-count}
-use Rattle.isa.specs.Layout.{layout, slots, fits, where-has, at-offset, width-of}
+use Rattle.rows.specs.Kinds.{width, second}
+use Rattle.rows.specs.Rows.{Row, rows, row-of, no-row, row-count}
+use Rattle.rows.specs.Layout.{layout, slots, fits, where-has, at-offset, width-of}
 use Rattle.isa.specs.Instructions.{number-in, instruction-of, listing, numbers}
 use Rattle.isa.specs.Legality.{judge}
 use Rattle.isa.specs.Reader.{find, stray, lowest-stray, read-row, read-number, read}
@@ -28,8 +28,8 @@ use Rattle.isa.specs.declared.answer.Refusal.{Refusal}
 use Rattle.isa.specs.declared.answer.Reading.{Reading}
 use Rattle.isa.specs.declared.answer.Legality.{Legality}
 use Rattle.isa.specs.declared.answer.Legality.the-variants.{Legal, Illegal}
-use Rattle.isa.proofs.TableLaws.{in-table}
-use Rattle.isa.proofs.RowLaws.{row-apart, opcode-there, second-there, width-le}
+use Rattle.rows.proofs.TableLaws.{in-table}
+use Rattle.rows.proofs.RowLaws.{row-apart, opcode-there, second-there, width-le}
 use Rattle.bits.proofs.SignedLaws.{there}
 
 -- ---- does a word fit a row

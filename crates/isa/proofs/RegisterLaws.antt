@@ -1,18 +1,22 @@
 -- Laws of what an instruction does to registers: the rows by ranges, and sets of registers made by arithmetic. Assumes nothing.
 use mathlib.Core.Path.{_≡_, refl, sym, ap, _∙_}
 use mathlib.Core.Bool.{Bool, true, false, _&&_, not}
-use Prim.Native.Nat.{ℕ, _+_, _-_, _*_, _/_, _%_, _^_, _<_, _≤_}
+use Prim.Native.Nat.{ℕ, _+_, _-_, _*_, _/_, _%_, _^_, _<_, _≤_, max}
 use native.Mathlib.Nat.{mod-lt, zero-mul, one-mul, mod-eq-of-lt}
 use native.Mathlib.Omega.{arith}
-use borrow.Author.Tests.{lt-ltb, le-ltb, eq-eqb, ne-eqb, ltb-true, ltb-false, leb-true, leb-false}
-use lib.Bits.{or-lt}
+use borrow.Author.Tests.{le-leb, lt-ltb, le-ltb, eq-eqb, ne-eqb, eqb-true, eqb-false, ltb-true, ltb-false, leb-true, leb-false}
+use lib.Arith.{bin-ind}
+use lib.Bits.{bitOr, or-step, or-zero-r, or-lt}
 use lib.Dec.{T, eqb, ltb, leb, eqb→eq}
 use lib.ListN.{length, List·getD-eq-default}
 use lib.Pow.{pow-pos, pow-lt}
-use Rattle.bits.specs.Fields.{choose}
+use Rattle.bits.specs.Fields.{bits, choose}
 use Rattle.bits.specs.Sets.{single}
 use Rattle.bits.proofs.Every.{every, at, and-l, and-r}
-use Rattle.isa.specs.Rows.{Row, rows, row-of, row-count, no-row}
+use Rattle.rows.specs.Rows.{Row, rows, row-of, row-count, no-row}
+use Rattle.rows.specs.Layout.{layout, at-s0, at-s1, at-s2, at-s3, at-offset, at-half-mask}
+use Rattle.isa.specs.Instructions.{number-in, instruction-of}
+use Rattle.isa.specs.Found.{Found, row-in}
 use Rattle.isa.specs.Registers.{reads-register, kills-register, source-set, sources-set, reads, kills, defines}
 use Rattle.isa.specs.declared.instruction.Instruction.{Instruction}
 
@@ -164,6 +168,9 @@ module _ (n j s : ℕ) (hn : n ≤ 4) (hj : j < 4) (hs : s < 256) where
   pub read-law : flag * 2 ^ (s % 64) % 2 ^ 64 ≡ choose (ltb j n && reads-register s) (2 ^ (s % 64)) 0
   read-law = shifted flag (s % 64) (ltb j n && reads-register s) flags (mod-lt s (pow-pos 6))
 
+pub read-in-law : (s : ℕ) → s < 256 → (1 - s / 128) * 2 ^ (s % 64) % 2 ^ 64 ≡ choose (reads-register s) (2 ^ (s % 64)) 0
+read-in-law s h = shifted (1 - s / 128) (s % 64) (reads-register s) (read-flag s h) (mod-lt s (pow-pos 6))
+
 -- of the bytes that read a register, those whose bit 6 is 1 release it
 pub kill-law : (t : Bool) (s x : ℕ) {p w : ℕ} → s < 256 → p ≡ choose (t && reads-register s) x 0 → w ≡ s
     → p * (w / 64 % 2) ≡ choose (t && kills-register s) x 0
@@ -236,3 +243,90 @@ module _ (i : Instruction) where
     pub full-write : i .«half_mask» ≡ 3 → single (i .register) ≡ defines i
     unfolding defines
     full-write h = rw (d, eq-eqb (i .«half_mask») 3 h)
+
+-- what the quick way of reading finds
+
+or-assoc : (a b c : ℕ) → bitOr (bitOr a b) c ≡ bitOr a (bitOr b c)
+or-assoc = bin-ind (λ (a : ℕ). (b c : ℕ) → bitOr (bitOr a b) c ≡ bitOr a (bitOr b c)) (λ b c. refl) step
+  where
+    step : (a : ℕ) → ((b c : ℕ) → bitOr (bitOr (a / 2) b) c ≡ bitOr (a / 2) (bitOr b c)) → (b c : ℕ) → bitOr (bitOr a b) c ≡ bitOr a (bitOr b c)
+    step a ih b c =
+        let h : bitOr a b / 2 ≡ bitOr (a / 2) (b / 2) = omega (arith, or-step a b) in
+        let k : bitOr b c / 2 ≡ bitOr (b / 2) (c / 2) = omega (arith, or-step b c) in
+        let l : bitOr (bitOr a b) c ≡ bitOr (bitOr (a / 2) (b / 2)) (c / 2) * 2 + max (bitOr a b % 2) (c % 2) = rw (← h) (or-step (bitOr a b) c) in
+        let r : bitOr a (bitOr b c) ≡ bitOr (a / 2) (bitOr (b / 2) (c / 2)) * 2 + max (a % 2) (bitOr b c % 2) = rw (← k) (or-step a (bitOr b c)) in
+        omega (arith, l, r, ih (b / 2) (c / 2), or-step a b, or-step b c)
+
+-- the numbers of what a row has, or lacks
+module _ (k w : ℕ) where
+  source-0 : ltb 0 (row-of k .sources) ≡ true → number-in k w at-s0 ≡ bits w 0 8
+  unfolding layout
+  source-0 e = rw e
+
+  source-1 : ltb 1 (row-of k .sources) ≡ true → number-in k w at-s1 ≡ bits w 8 8
+  unfolding layout
+  source-1 e = rw e
+
+  source-2 : ltb 2 (row-of k .sources) ≡ true → number-in k w at-s2 ≡ bits w 16 8
+  unfolding layout
+  source-2 e = rw e
+
+  source-3 : ltb 3 (row-of k .sources) ≡ true → number-in k w at-s3 ≡ bits w 24 8
+  unfolding layout
+  source-3 e = rw e
+
+  pub branch-offset : row-of k .offset ≡ true → number-in k w at-offset ≡ bits w 8 27
+  unfolding layout
+  branch-offset e = rw e
+
+  pub no-half : row-of k .destination ≡ false → number-in k w at-half-mask ≡ 0
+  unfolding layout
+  no-half e = rw e (omega arith)
+
+-- the set of one byte
+abbrev byte-set : (ℕ → Bool) → ℕ → ℕ
+byte-set test b = choose (test b) (2 ^ (b % 64)) 0
+
+pub no-kill : (s : ℕ) → 128 ≤ s → kills-register s ≡ false
+no-kill s h = rw (le-ltb s 128 h, le-leb 64 s (omega arith))
+
+-- a source, or a constant where the row lacks it
+or-constant : (test : ℕ → Bool) → test 192 ≡ false → (t : Bool) {b x v : ℕ} → b ≡ choose t x 192 → (t ≡ true → v ≡ x)
+    → byte-set test b ≡ choose (t && test v) (2 ^ (v % 64)) 0
+or-constant test z true e h = rw (e, h refl)
+or-constant test z false e h = rw (e, z)
+
+module _ (f w : ℕ) (g : Found w f) where
+  abbrev found : Instruction
+  found = instruction-of (row-in f) w
+
+  module _ (test : ℕ → Bool) (z : test 192 ≡ false) where
+    source-told : (j v : ℕ) {s a : ℕ} → j < 4 → (ltb j (row-of (row-in f) .sources) ≡ true → v ≡ bits w (8 * j) 8) → s ≡ bits f (8 * j) 8
+        → a ≡ byte-set test s → a ≡ source-set test found j v
+    source-told j v l h e p = p ∙ or-constant test z (ltb j (row-of (row-in f) .sources)) (e ∙ g .source j l) h
+
+    module _ {s0 s1 s2 s3 a b c : ℕ} (e0 : s0 ≡ bits f 0 8) (e1 : s1 ≡ bits f 8 8) (e2 : s2 ≡ bits f 16 8) (e3 : s3 ≡ bits f 24 8)
+        (p0 : a ≡ byte-set test s0) (p1 : b ≡ byte-set test s1) (p2 : c ≡ byte-set test s2) where
+      four : (d : ℕ) → d ≡ byte-set test s3 → bitOr (bitOr (bitOr a b) c) d ≡ sources-set test found
+      four d p3 =
+          let q0 = source-told 0 (found .sources .s0) (omega arith) (source-0 (row-in f) w) e0 p0 in
+          let q1 = source-told 1 (found .sources .s1) (omega arith) (source-1 (row-in f) w) e1 p1 in
+          let q2 = source-told 2 (found .sources .s2) (omega arith) (source-2 (row-in f) w) e2 p2 in
+          let q3 = source-told 3 (found .sources .s3) (omega arith) (source-3 (row-in f) w) e3 p3 in
+          or-assoc (bitOr a b) c d ∙ rw (q0, q1, q2, q3)
+
+      -- the last source may be left out where its byte fails the test
+      pub sources-told : ((d : ℕ) → d ≡ byte-set test s3 → bitOr (bitOr (bitOr a b) c) d ≡ sources-set test found)
+          × (test s3 ≡ false → bitOr (bitOr a b) c ≡ sources-set test found)
+      sources-told = (four, λ n. sym (or-zero-r (bitOr (bitOr a b) c)) ∙ four 0 (rw n))
+
+-- the register that is fully written, by arithmetic
+pub defines-in : (i : Instruction) {h r : ℕ} → h < 4 → r < 64 → h ≡ i .«half_mask» → r ≡ i .register → (row-of (i .row) .destination ≡ false → h ≡ 0)
+    → (h + 1) / 4 * 2 ^ r % 2 ^ 64 ≡ defines i
+unfolding defines
+defines-in i {h} {r} hl rl eh er n = rw (← eh, ← er, lt-ltb r 64 rl) (go (row-of (i .row) .destination) refl (eqb h 3) refl)
+  where
+    go : (d : Bool) → row-of (i .row) .destination ≡ d → (t : Bool) → eqb h 3 ≡ t → (h + 1) / 4 * 2 ^ r % 2 ^ 64 ≡ choose (d && t) (2 ^ r) 0
+    go true a true b = shifted ((h + 1) / 4) r true (omega (arith, eqb-true h 3 b)) rl
+    go true a false b = shifted ((h + 1) / 4) r false (omega (arith, eqb-false h 3 b)) rl
+    go false a t b = shifted ((h + 1) / 4) r false (omega (arith, n a)) rl

@@ -16,9 +16,9 @@ use Rattle.bits.specs.Outcomes.{Outcome, gives, refuses, passes, require, _then
 use Rattle.bits.proofs.OutcomeLaws.{then-gives, required, then-refuses, then-refused, refused, never}
 use Rattle.bits.proofs.ByteLaws.{little-lt, bytes-of-little, little-of-bytes, length-bytes}
 use Rattle.bits.proofs.FieldLaws.{Fit, fit-rule, fit-at, split-join, join-lt, join-blank}
-use Rattle.isa.specs.Kinds.{width, second}
-use Rattle.isa.specs.Rows.{Row, rows, row-of, row-count}
-use Rattle.isa.specs.Layout.{slot-count, slots, layout, slot-of, no-field, fits, where-has, width-of, at-s0, at-s1, at-offset, at-m8, at-m10, at-m11, at-s2, at-second-16, at-s3, at-second-24, at-m24, at-m26, at-m28, at-m30, at-m32, at-m34, at-m35, at-m36, at-m37, at-m38, at-m39, at-register, at-half-mask, at-opcode, at-page, at-flow}
+use Rattle.rows.specs.Kinds.{width, second}
+use Rattle.rows.specs.Rows.{Row, rows, row-of, row-count}
+use Rattle.rows.specs.Layout.{slot-count, slots, layout, slot-of, no-field, fits, where-has, width-of, at-s0, at-s1, at-offset, at-m8, at-m10, at-m11, at-s2, at-second-16, at-s3, at-second-24, at-m24, at-m26, at-m28, at-m30, at-m32, at-m34, at-m35, at-m36, at-m37, at-m38, at-m39, at-register, at-half-mask, at-opcode, at-page, at-flow}
 use Rattle.isa.specs.Instructions.{offset-of, number-in, instruction-of, numbers, second-number, word-of}
 use Rattle.isa.specs.Legality.{first-refused, none-refused, judge}
 use Rattle.isa.specs.Reader.{find, lowest-stray, read-row, read-number, read}
@@ -26,7 +26,7 @@ use Rattle.isa.specs.Writer.{judge-instruction, is-record, write, stored
 use Rattle.isa.specs.Answers.{refusal}
 use Rattle.isa.specs.declared.instruction.Instruction.{Instruction}
 use Rattle.isa.specs.declared.answer.Refusal.{Refusal}
-use Rattle.isa.proofs.RowLaws.{row-apart, one-row, secondary, width-le, slots-length, slot-width}
+use Rattle.rows.proofs.RowLaws.{row-apart, one-row, secondary, width-le, slots-length, slot-width}
 use Rattle.bits.proofs.SignedLaws.{back-again}
 use Rattle.isa.proofs.ReaderLaws.{find-below, find-fits, numbers-split, numbers-fit, clean-stray, stray-le, join-of-clean}
 use Rattle.isa.proofs.WriterLaws.{legal-row, legal-fit, legal-numbers, is-true, same-refl}

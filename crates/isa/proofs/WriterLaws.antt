@@ -13,8 +13,8 @@ use Rattle.bits.specs.Fields.{fit}
 use Rattle.bits.specs.Bytes.{little-bytes}
 use Rattle.bits.specs.Outcomes.{Outcome, refuses, passes, require, _then_}
 use Rattle.bits.proofs.OutcomeLaws.{then-gives, required}
-use Rattle.isa.specs.Rows.{row-of, row-count}
-use Rattle.isa.specs.Layout.{slots}
+use Rattle.rows.specs.Rows.{row-of, row-count}
+use Rattle.rows.specs.Layout.{slots}
 use Rattle.isa.specs.Instructions.{numbers, word-of}
 use Rattle.isa.specs.Legality.{judge}
 use Rattle.isa.specs.Reader.{read-number}
@@ -24,7 +24,7 @@ use Rattle.isa.specs.declared.instruction.Instruction.{Instruction}
 use Rattle.isa.specs.declared.answer.Refusal.{Refusal}
 use Rattle.isa.specs.declared.answer.Legality.{Legality}
 use Rattle.isa.specs.declared.answer.Legality.the-variants.{Legal, Illegal}
-use Rattle.isa.proofs.RowLaws.{both}
+use Rattle.rows.proofs.RowLaws.{both}
 use Rattle.isa.proofs.OffsetLaws.{offset-same, offset-eq}
 
 -- ---- 2, 9, then 4 to 7

@@ -4,17 +4,12 @@ use Prim.Native.Nat.{ℕ}
 use lib.Dec.{ltb}
 use lib.IntN.{pos}
 use Rattle.bits.specs.Outcomes.{Outcome, gives, require, _then_}
-use Rattle.isa.specs.Kinds.{about}
-use Rattle.isa.specs.Rows.{row-count}
-use Rattle.isa.specs.Layout.{kind-of, at-m8, at-m10, at-m11, at-m24, at-m26, at-m28, at-m30, at-m32, at-m34, at-m35, at-m36, at-m37, at-m38, at-m39, at-half-mask}
+use Rattle.rows.specs.Rows.{row-count}
+use Rattle.rows.specs.Layout.{default-of, at-m8, at-m10, at-m11, at-m24, at-m26, at-m28, at-m30, at-m32, at-m34, at-m35, at-m36, at-m37, at-m38, at-m39, at-half-mask}
 use Rattle.isa.specs.Answers.{refusal}
 use Rattle.isa.specs.declared.instruction.Modifiers.{Modifiers}
 use Rattle.isa.specs.declared.instruction.Instruction.{Instruction}
 use Rattle.isa.specs.declared.answer.Refusal.{Refusal}
-
--- the default of field i of row k
-abbrev pub default-of : ℕ → ℕ → ℕ
-default-of k i = about (kind-of k i) .default
 
 abbrev pub default-modifiers : ℕ → Modifiers
 default-modifiers k =

@@ -11,10 +11,10 @@ use lib.ListN.{length, getD}
 use Rattle.bits.specs.Fields.{bits, assigned}
 use Rattle.bits.specs.Bytes.{little}
 use Rattle.bits.specs.Outcomes.{Outcome, gives, refuses, passes}
-use Rattle.isa.specs.Kinds.{Kind, about, within, width, flow, half-mask}
-use Rattle.isa.specs.Sources.{source-legal}
-use Rattle.isa.specs.Rows.{Modifier, row-of, row-count}
-use Rattle.isa.specs.Layout.{slots, modifier-at, modifier-lows}
+use Rattle.rows.specs.Kinds.{Kind, about, within, width, flow, half-mask}
+use Rattle.rows.specs.Sources.{source-legal}
+use Rattle.rows.specs.Rows.{Modifier, row-of, row-count}
+use Rattle.rows.specs.Layout.{slots, modifier-at, modifier-lows}
 use Rattle.isa.specs.Reader.{read}
 use Rattle.isa.specs.Writer.{stored}
 use Rattle.isa.specs.declared.instruction.Instruction.{Instruction}

@@ -6,8 +6,8 @@ use lib.IntN.{ℤ, pos, negsuc}
 use lib.ListN.{take, replicate}
 use Rattle.bits.specs.Bytes.{little-bytes}
 use Rattle.bits.specs.Outcomes.{Outcome, gives, refuses}
-use Rattle.isa.specs.Rows.{row-of}
-use Rattle.isa.specs.Sources.{Meaning, meaning, register-read, register-released, uniform, immediate, special, warp-id}
+use Rattle.rows.specs.Rows.{row-of}
+use Rattle.rows.specs.Sources.{Meaning, meaning, register-read, register-released, uniform, immediate, special, warp-id}
 use Rattle.isa.specs.Answers.{refusal}
 use Rattle.isa.specs.Reader.{read}
 use Rattle.isa.specs.Writer.{stored}

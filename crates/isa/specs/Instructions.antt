@@ -1,12 +1,13 @@
 -- Decoded instructions (the paper's records) and the numbers of their words.
 use mathlib.Core.List.{List, [], _∷_}
-use Prim.Native.Nat.{ℕ}
+use Prim.Native.Nat.{ℕ, _*_}
 use lib.Dec.{eqb}
 use lib.IntN.{ℤ}
 use Rattle.bits.specs.Fields.{bits, choose, join}
 use Rattle.bits.specs.Signed.{unsigned, signed}
-use Rattle.isa.specs.Rows.{row-of}
-use Rattle.isa.specs.Layout.{at-s0, at-s1, at-offset, at-m8, at-m10, at-m11, at-s2, at-s3, at-m24, at-m26, at-m28, at-m30, at-m32, at-m34, at-m35, at-m36, at-m37, at-m38, at-m39, at-register, at-half-mask, at-page, at-flow, slots, width-of, low-of}
+use Rattle.rows.specs.Rows.{row-of}
+use Rattle.rows.specs.Layout.{at-s0, at-s1, at-offset, at-m8, at-m10, at-m11, at-s2, at-s3, at-m24, at-m26, at-m28, at-m30, at-m32, at-m34, at-m35, at-m36, at-m37, at-m38, at-m39, at-register, at-half-mask, at-page, at-flow, slots, width-of, low-of}
+use Rattle.rows.specs.Lines.{width-at}
 use Rattle.isa.specs.declared.instruction.Sources.{Sources}
 use Rattle.isa.specs.declared.instruction.Modifiers.{Modifiers}
 use Rattle.isa.specs.declared.instruction.Instruction.{Instruction}
@@ -42,6 +43,35 @@ modifiers-of k w =
       m37 = number-in k w at-m37;
       m38 = number-in k w at-m38;
       m39 = number-in k w at-m39;
+    }
+
+-- the sources and modifiers of a word whose row has these fields
+abbrev pub sources-in : ℕ → ℕ → Sources
+sources-in fields w =
+    record {
+      s0 = bits w 0 (8 * bits fields 42 1);
+      s1 = bits w 8 (8 * bits fields 43 1);
+      s2 = bits w 16 (8 * bits fields 44 1);
+      s3 = bits w 24 (8 * bits fields 45 1);
+    }
+
+abbrev pub modifiers-in : ℕ → ℕ → Modifiers
+modifiers-in fields w =
+    record {
+      m8 = bits w 8 (width-at fields 0);
+      m10 = bits w 10 (width-at fields 1);
+      m11 = bits w 11 (width-at fields 2);
+      m24 = bits w 24 (width-at fields 3);
+      m26 = bits w 26 (width-at fields 4);
+      m28 = bits w 28 (width-at fields 5);
+      m30 = bits w 30 (width-at fields 6);
+      m32 = bits w 32 (width-at fields 7);
+      m34 = bits w 34 (width-at fields 8);
+      m35 = bits w 35 (width-at fields 9);
+      m36 = bits w 36 (width-at fields 10);
+      m37 = bits w 37 (width-at fields 11);
+      m38 = bits w 38 (width-at fields 12);
+      m39 = bits w 39 (width-at fields 13);
     }
 
 -- what a word of row k says: "A record holds the row number, page, flow, destination, sources and modifiers; places its row doesn't use

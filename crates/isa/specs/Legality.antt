@@ -6,10 +6,10 @@ use lib.Dec.{leb, eqb}
 use lib.ListN.{getD}
 use Rattle.bits.specs.Fields.{choose}
 use Rattle.bits.specs.Outcomes.{Outcome, require, _then_}
-use Rattle.isa.specs.Kinds.{Kind, within, about}
-use Rattle.isa.specs.Sources.{source-legal}
-use Rattle.isa.specs.Rows.{row-of}
-use Rattle.isa.specs.Layout.{Field, layout, slot-count, at-page, low-of}
+use Rattle.rows.specs.Kinds.{Kind, within, about}
+use Rattle.rows.specs.Sources.{source-legal}
+use Rattle.rows.specs.Rows.{row-of}
+use Rattle.rows.specs.Layout.{Field, layout, slot-count, at-page, low-of}
 use Rattle.isa.specs.Answers.{refusal}
 use Rattle.isa.specs.declared.answer.Refusal.{Refusal}
 

@@ -1,15 +1,10 @@
-pub mod Kinds
-pub mod Rows
-pub mod Layout
-pub mod Sources
 pub mod Answers
 pub mod Instructions
 pub mod Legality
 pub mod Reader
 pub mod Writer
 pub mod Defaults
-pub mod Names
 pub mod Registers
+pub mod Found
 pub mod Demand2
-pub mod Table
 pub mod Examples

@@ -8,8 +8,8 @@ use Rattle.bits.specs.Fields.{choose, assigned}
 use Rattle.bits.specs.Bytes.{little}
 use Rattle.bits.specs.Sets.{has, lowest-from}
 use Rattle.bits.specs.Outcomes.{Outcome, gives, require, _then_}
-use Rattle.isa.specs.Rows.{Row, rows, row-of, row-count}
-use Rattle.isa.specs.Layout.{slots, fits}
+use Rattle.rows.specs.Rows.{Row, rows, row-of, row-count}
+use Rattle.rows.specs.Layout.{slots, fits}
 use Rattle.isa.specs.Instructions.{instruction-of, numbers}
 use Rattle.isa.specs.Legality.{judge}
 use Rattle.isa.specs.Answers.{refusal}

@@ -1,11 +1,16 @@
 -- What an instruction does to registers and where it goes (paper 01, "How registers are held"), for any record.
-use mathlib.Core.Bool.{Bool, _&&_}
+use mathlib.Core.Path.{_≡_}
+use mathlib.Core.Bool.{Bool, true, _&&_}
+use mathlib.Core.List.{List}
 use Prim.Native.Nat.{ℕ, _%_, _^_}
 use lib.Dec.{ltb, leb, eqb}
 use Rattle.bits.specs.Fields.{choose}
 use Rattle.bits.specs.Sets.{single, union}
-use Rattle.isa.specs.Rows.{row-of}
+use Rattle.rows.specs.Rows.{row-of}
+use Rattle.bits.specs.Outcomes.{gives}
+use Rattle.isa.specs.Reader.{read}
 use Rattle.isa.specs.declared.instruction.Instruction.{Instruction}
+use Rattle.isa.specs.declared.registers.Effect.{Effect}
 
 -- a source byte that reads a register: one below 128; its number is the byte, or the byte minus 64
 abbrev pub reads-register : ℕ → Bool
@@ -44,3 +49,18 @@ ends i = eqb (i .flow) 15
 -- "for BRANCHZ also i + 1 + offset": BRANCHZ is the only row that has an offset
 abbrev pub branches : Instruction → Bool
 branches i = row-of (i .row) .offset
+
+-- an effect says what an instruction does; its offset counts only where the instruction branches
+pub record Does (e : Effect) (i : Instruction) : Type 0 where
+  pub reads-told : e .reads ≡ reads i
+  pub kills-told : e .kills ≡ kills i
+  pub defines-told : e .defines ≡ defines i
+  pub ends-told : e .ends ≡ ends i
+  pub branches-told : e .branches ≡ branches i
+  pub offset-told : branches i ≡ true → e .offset ≡ i .offset
+
+-- the bytes are read, and the effect says what their instruction does
+pub record Effects (bs : List ℕ) (e : Effect) : Type 0 where
+  pub instruction : Instruction
+  pub told : read bs ≡ gives instruction
+  pub does : Does e instruction

@@ -8,8 +8,8 @@ use lib.ListN.{length}
 use Rattle.bits.specs.Fields.{fit}
 use Rattle.bits.specs.Bytes.{little-bytes}
 use Rattle.bits.specs.Outcomes.{Outcome, gives, refuses, require, _then_}
-use Rattle.isa.specs.Rows.{row-of, row-count}
-use Rattle.isa.specs.Layout.{slots}
+use Rattle.rows.specs.Rows.{row-of, row-count}
+use Rattle.rows.specs.Layout.{slots}
 use Rattle.isa.specs.Instructions.{numbers, word-of}
 use Rattle.isa.specs.Legality.{judge}
 use Rattle.isa.specs.Reader.{read-number}

@@ -1,13 +1,13 @@
 ghost use mathlib.Core.Path.{_≡_};
 ghost use Prim.Native.Nat.{_<_};
-ghost use Rattle.isa.specs.Layout.{slot-count};
-ghost use Rattle.isa.specs.Rows.{row-count};
+ghost use Rattle.rows.specs.Layout.{slot-count};
+ghost use Rattle.rows.specs.Rows.{row-count};
 ghost use Rattle.isa.specs.Defaults.{default-modifiers, fresh};
 ghost use Rattle.isa.specs.Answers.{making};
-ghost use Rattle.isa.specs.Table.{table};
+ghost use Rattle.rows.specs.Table.{table};
 use crate::answer::Fresh;
 use crate::answer::Refusal;
-use crate::table;
+use rows::table;
 
 // The source bytes.
 pub struct Sources {

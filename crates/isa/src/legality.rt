@@ -3,26 +3,39 @@ ghost use mathlib.Core.Path.{_≡_};
 ghost use Prim.Native.Nat.{_<_, _≤_, _^_};
 ghost use lib.Dec.{T};
 ghost use Rattle.bits.specs.Fields.{fit};
-ghost use Rattle.isa.specs.Sources.{source-legal};
-ghost use Rattle.isa.specs.Rows.{row-of, row-count};
-ghost use Rattle.isa.specs.Layout.{slot-count, slots, field-of, width-of};
+ghost use Rattle.rows.specs.Sources.{source-legal};
+ghost use Rattle.rows.specs.Rows.{row-of, row-count};
+ghost use Rattle.rows.specs.Layout.{slot-count, slots, field-of, width-of};
 ghost use Rattle.isa.specs.Legality.{refused-by, first-refused, judge};
 ghost use Rattle.isa.specs.Answers.{judging};
-ghost use Rattle.isa.specs.Table.{table};
+ghost use Rattle.rows.specs.Table.{table, page-word};
 use crate::answer::Legality;
 use crate::answer::Refusal;
-use crate::table;
 use bits::fields::bits_at;
+use rows::table;
+
+// The special constants of a page that are not reserved.
+fn specials(page: u64) -> u64
+    requires { ⌜ page < 4 ⌝ }
+    ensures { λ r. ⌜ r ≡ page-word page ⌝ }
+{
+    match page {
+        0 => 0xFF74,
+        1 => 0x008A,
+        2 => 0x0000,
+        _ => 0x800A,
+    }
+}
 
 // Is a source byte legal on a page?
-fn source_ok(t: &table::Table, page: u64, b: u64) -> bool
-    requires { ⌜ (now t ≡ table) × (page < 4) × (b < 256) ⌝ }
+pub(crate) fn source_ok(page: u64, b: u64) -> bool
+    requires { ⌜ (page < 4) × (b < 256) ⌝ }
     ensures { λ r. ⌜ r ≡ source-legal page b ⌝ }
 {
     if b < 224 {
         return true;
     }
-    bits_at(table::page_at(t, page), b - 224, 1) == 1
+    bits_at(specials(page), b - 224, 1) == 1
 }
 
 // Does field i of a row get refusal n for the value v?
@@ -34,7 +47,7 @@ fn refused(t: &table::Table, n: u64, row: usize, i: usize, page: u64, v: u64) ->
         return false;
     }
     if n == 7 {
-        return !source_ok(t, page, v);
+        return !source_ok(page, v);
     }
     bits_at(table::legal_at(t, row, i), v, 1) != 1
 }
@@ -76,14 +89,14 @@ pub(crate) fn judge_numbers(t: &table::Table, row: usize, v: [u64; table::SLOTS]
     if i < table::SLOTS {
         return Legality::Illegal(Refusal {
             number: 6,
-            place: table::low_at(t, i) as u8,
+            place: table::low_at(i) as u8,
         });
     }
     let j = first_refused(t, 7, row, v);
     if j < table::SLOTS {
         return Legality::Illegal(Refusal {
             number: 7,
-            place: (table::low_at(t, j) / 8) as u8,
+            place: (table::low_at(j) / 8) as u8,
         });
     }
     Legality::Legal

@@ -2,8 +2,7 @@
 pub mod answer;
 pub mod instruction;
 pub mod legality;
-pub mod names;
+pub mod quick;
 pub mod reader;
 pub mod registers;
-pub mod table;
 pub mod writer;

@@ -1,15 +1,18 @@
 // Reading words.
 ghost use mathlib.Core.Path.{_≡_};
-ghost use mathlib.Core.Logic.{_≢_};
-ghost use Prim.Native.Nat.{_<_, _≤_, _^_};
+ghost use Prim.Native.Nat.{_*_, _<_, _≤_, _^_};
 ghost use Rattle.bits.specs.Fields.{bits};
-ghost use Rattle.isa.specs.Rows.{rows, row-of, row-count};
-ghost use Rattle.isa.specs.Layout.{fits, slot-count, at-offset, at-opcode};
-ghost use Rattle.isa.specs.Instructions.{offset-of, number-in, sources-of, modifiers-of, instruction-of};
+ghost use Rattle.rows.specs.Rows.{rows, row-of, row-count};
+ghost use Rattle.rows.specs.Layout.{fits};
+ghost use Rattle.isa.specs.Instructions.{offset-of, instruction-of};
 ghost use Rattle.isa.specs.Reader.{find, lowest-stray, read-number, read};
 ghost use Rattle.isa.specs.Answers.{judging, reading, judged};
 ghost use Rattle.isa.specs.Demand2.{ReadAsAsked};
-ghost use Rattle.isa.specs.Table.{table};
+ghost use Rattle.rows.specs.Table.{table};
+ghost use Rattle.rows.specs.Lines.{width-at};
+ghost use Rattle.isa.specs.Instructions.{sources-in, modifiers-in};
+ghost use Rattle.isa.specs.Registers.{Effects};
+ghost use mathlib.Core.Bool.{true};
 use crate::answer::Legality;
 use crate::answer::Reading;
 use crate::answer::Refusal;
@@ -17,10 +20,15 @@ use crate::instruction::Instruction;
 use crate::instruction::Modifiers;
 use crate::instruction::Sources;
 use crate::legality::judge_numbers;
-use crate::table;
+use crate::quick::NONE;
+use crate::quick::quick;
+use crate::registers::Effect;
+use crate::registers::effect_of;
 use crate::writer::numbers_of;
 use bits::bytes::load64;
 use bits::fields::bits_at;
+use rows::lines::fields_of;
+use rows::table;
 
 // Does a word have row k's opcode and secondary opcode?
 fn fits_row(t: &table::Table, k: usize, w: u64) -> bool
@@ -56,50 +64,56 @@ fn lowest_stray(t: &table::Table, row: usize, w: u64) -> u32
     bits::sets::lowest(bits::sets::missing(w, table::row_word(t, row, 4)))
 }
 
-// Number i of a word; not the offset or the opcode, which are wider than a byte.
-fn number_in(t: &table::Table, row: usize, w: u64, i: usize) -> u8
-    requires { ⌜ (now t ≡ table) × (row < row-count) × (i < slot-count) × (i ≢ at-offset) × (i ≢ at-opcode) ⌝ }
-    ensures { λ r. ⌜ r ≡ number-in row w i ⌝ }
+// Modifier i of a word, whose lowest bit is `low`; `fields` says what fields its row has.
+fn modifier_in(fields: u64, w: u64, low: u64, i: u64) -> u8
+    requires { ⌜ (low < 64) × (i < 14) ⌝ }
+    ensures { λ r. ⌜ r ≡ bits w low (width-at fields i) ⌝ }
 {
-    bits_at(w, table::low_at(t, i), table::width_at(t, row, i)) as u8
+    bits_at(w, low, bits_at(fields, 3 * i, 3)) as u8
 }
 
-fn sources_of(t: &table::Table, row: usize, w: u64) -> Sources
-    requires { ⌜ (now t ≡ table) × (row < row-count) ⌝ }
-    ensures { λ s. ⌜ s ≡ sources-of row w ⌝ }
+// The `width` bits of a word from bit `low` up, where bit `at` says that its row has them, else 0.
+fn number_in(fields: u64, at: u64, w: u64, low: u64, width: u64) -> u64
+    requires { ⌜ (at < 64) × (low < 64) × (width < 64) ⌝ }
+    ensures { λ r. ⌜ (r ≡ bits w low (width * bits fields at 1)) × (r < 2 ^ width) ⌝ }
+{
+    bits_at(w, low, width * bits_at(fields, at, 1))
+}
+
+fn sources_in(fields: u64, w: u64) -> Sources
+    ensures { λ s. ⌜ s ≡ sources-in fields w ⌝ }
 {
     Sources {
-        s0: number_in(t, row, w, table::S0),
-        s1: number_in(t, row, w, table::S1),
-        s2: number_in(t, row, w, table::S2),
-        s3: number_in(t, row, w, table::S3),
+        s0: number_in(fields, 42, w, 0, 8) as u8,
+        s1: number_in(fields, 43, w, 8, 8) as u8,
+        s2: number_in(fields, 44, w, 16, 8) as u8,
+        s3: number_in(fields, 45, w, 24, 8) as u8,
     }
 }
 
-fn modifiers_of(t: &table::Table, row: usize, w: u64) -> Modifiers
-    requires { ⌜ (now t ≡ table) × (row < row-count) ⌝ }
-    ensures { λ m. ⌜ m ≡ modifiers-of row w ⌝ }
+fn modifiers_in(fields: u64, w: u64) -> Modifiers
+    ensures { λ m. ⌜ m ≡ modifiers-in fields w ⌝ }
 {
     Modifiers {
-        m8: number_in(t, row, w, table::M8),
-        m10: number_in(t, row, w, table::M10),
-        m11: number_in(t, row, w, table::M11),
-        m24: number_in(t, row, w, table::M24),
-        m26: number_in(t, row, w, table::M26),
-        m28: number_in(t, row, w, table::M28),
-        m30: number_in(t, row, w, table::M30),
-        m32: number_in(t, row, w, table::M32),
-        m34: number_in(t, row, w, table::M34),
-        m35: number_in(t, row, w, table::M35),
-        m36: number_in(t, row, w, table::M36),
-        m37: number_in(t, row, w, table::M37),
-        m38: number_in(t, row, w, table::M38),
-        m39: number_in(t, row, w, table::M39),
+        m8: modifier_in(fields, w, 8, 0),
+        m10: modifier_in(fields, w, 10, 1),
+        m11: modifier_in(fields, w, 11, 2),
+        m24: modifier_in(fields, w, 24, 3),
+        m26: modifier_in(fields, w, 26, 4),
+        m28: modifier_in(fields, w, 28, 5),
+        m30: modifier_in(fields, w, 30, 6),
+        m32: modifier_in(fields, w, 32, 7),
+        m34: modifier_in(fields, w, 34, 8),
+        m35: modifier_in(fields, w, 35, 9),
+        m36: modifier_in(fields, w, 36, 10),
+        m37: modifier_in(fields, w, 37, 11),
+        m38: modifier_in(fields, w, 38, 12),
+        m39: modifier_in(fields, w, 39, 13),
     }
 }
 
 // The branch offset that 27 bits give.
-fn offset_of(n: u64) -> i32
+pub(crate) fn offset_of(n: u64) -> i32
     requires { ⌜ n < 134217728 ⌝ }
     ensures { λ r. ⌜ r ≡ offset-of n ⌝ }
 {
@@ -111,21 +125,22 @@ fn offset_of(n: u64) -> i32
 }
 
 // What a word of a row says.
-fn instruction_of(t: &table::Table, row: usize, w: u64) -> Instruction
-    requires { ⌜ (now t ≡ table) × (row < row-count) ⌝ }
+fn instruction_of(row: usize, w: u64) -> Instruction
+    requires { ⌜ row < row-count ⌝ }
     ensures { λ i. ⌜ i ≡ instruction-of row w ⌝ }
 {
-    let sources = sources_of(t, row, w);
-    let modifiers = modifiers_of(t, row, w);
+    let fields = fields_of(row as u64);
+    let sources = sources_in(fields, w);
+    let modifiers = modifiers_in(fields, w);
     Instruction {
         row: row as u8,
-        page: number_in(t, row, w, table::PAGE),
-        flow: number_in(t, row, w, table::FLOW),
-        register: number_in(t, row, w, table::REGISTER),
-        half_mask: number_in(t, row, w, table::HALF_MASK),
+        page: bits_at(w, 57, 2) as u8,
+        flow: bits_at(w, 59, 4) as u8,
+        register: number_in(fields, 47, w, 40, 6) as u8,
+        half_mask: number_in(fields, 47, w, 46, 2) as u8,
         sources,
         modifiers,
-        offset: offset_of(bits_at(w, 8, table::width_at(t, row, table::OFFSET))),
+        offset: offset_of(number_in(fields, 46, w, 8, 27)),
     }
 }
 
@@ -139,8 +154,8 @@ fn judged(d: Legality, i: Instruction) -> Reading
     }
 }
 
-// What a word says.
-pub(crate) fn read_number(t: &table::Table, w: u64) -> Reading
+// What a word says, by trying each row and each field.
+fn try_rows(t: &table::Table, w: u64) -> Reading
     requires { ⌜ now t ≡ table ⌝ }
     ensures { λ r. ⌜ reading r ≡ read-number w ⌝ }
 {
@@ -157,13 +172,23 @@ pub(crate) fn read_number(t: &table::Table, w: u64) -> Reading
             place: 0,
         });
     }
-    let i = instruction_of(t, row, w);
+    let i = instruction_of(row, w);
     judged(judge_numbers(t, row, numbers_of(t, i)), i)
 }
 
-// What eight bytes say; the table is lent, so that a caller who reads many words makes it once.
-pub fn read_with(t: &table::Table, bytes: &[u8]) -> Reading
-    requires { ⌜ now t ≡ table ⌝ }
+// What a word says. Most words that are read are seen to be legal at once.
+pub(crate) fn read_number(w: u64) -> Reading
+    ensures { λ r. ⌜ reading r ≡ read-number w ⌝ }
+{
+    let f = quick(w);
+    if f == NONE {
+        let t = table::made();
+        return try_rows(&t, w);
+    }
+    Reading::Read(instruction_of((f / 4294967296) as usize, w))
+}
+
+fn read_bytes(bytes: &[u8]) -> Reading
     ensures { λ r. ⌜ reading r ≡ read (now (bytes .entry)) ⌝ }
 {
     if bytes.len() != 8 {
@@ -172,7 +197,7 @@ pub fn read_with(t: &table::Table, bytes: &[u8]) -> Reading
             place: 0,
         });
     }
-    read_number(t, load64(bytes))
+    read_number(load64(bytes))
 }
 
 // What eight bytes say: the instruction, or the first of the refusals 1 to 7.
@@ -180,6 +205,16 @@ pub fn read_word(bytes: &[u8]) -> Reading
     ensures answer { λ r. ⌜ reading r ≡ read (now (bytes .entry)) ⌝ }
     ensures demand { λ r. ⌜ ReadAsAsked (now (bytes .entry)) (reading r) ⌝ }
 {
-    let t = table::made();
-    read_with(&t, bytes)
+    read_bytes(bytes)
+}
+
+// What eight bytes do, where that is seen at once. Whether it is, is a matter of speed alone.
+pub fn effect_in(bytes: &[u8]) -> Effect
+    ensures { λ e. ⌜ (e .known ≡ true → Effects (now (bytes .entry)) e) ⌝ }
+{
+    if bytes.len() != 8 {
+        return effect_of(NONE, 0);
+    }
+    let w = load64(bytes);
+    effect_of(quick(w), w)
 }

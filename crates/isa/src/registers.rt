@@ -1,15 +1,20 @@
 // What an instruction does to registers, and where it goes. A row's shape is told from ranges of rows and not looked up, and sets are
 // made by arithmetic with 0 and 1, since a verifier asks for them at every word.
 use crate::instruction::Instruction;
+use crate::quick::NONE;
+use crate::reader::offset_of;
 use bits::bytes::wide;
+use bits::fields::bits_at;
 use bits::sets::single;
 ghost use mathlib.Core.Path.{_≡_};
-ghost use mathlib.Core.Bool.{_&&_};
+ghost use mathlib.Core.Bool.{_&&_, not};
 ghost use Prim.Native.Nat.{_≤_, _<_, _^_, _%_};
-ghost use lib.Dec.{ltb};
+ghost use lib.Dec.{ltb, eqb};
 ghost use Rattle.bits.specs.Fields.{choose};
-ghost use Rattle.isa.specs.Rows.{row-of};
-ghost use Rattle.isa.specs.Registers.{reads-register, kills-register, reads, kills, defines, ends, branches};
+ghost use Rattle.rows.specs.Rows.{row-of};
+ghost use Rattle.isa.specs.Instructions.{instruction-of};
+ghost use Rattle.isa.specs.Registers.{reads-register, kills-register, reads, kills, defines, ends, branches, Does};
+ghost use Rattle.isa.specs.Found.{Found, row-in, none};
 
 const BRANCH_ROW: u8 = 1;
 
@@ -99,5 +104,59 @@ impl Instruction {
         ensures { λ r. ⌜ r ≡ branches self ⌝ }
     {
         self.row == BRANCH_ROW
+    }
+}
+
+// What a word does to registers and where it goes, where that is known.
+pub struct Effect {
+    pub known: bool,
+    pub reads: u64,
+    pub kills: u64,
+    pub defines: u64,
+    pub ends: bool,
+    pub branches: bool,
+    pub offset: i32,
+}
+
+// The register that a source byte reads, as a set.
+fn read_in(b: u64) -> u64
+    requires { ⌜ b < 256 ⌝ }
+    ensures { λ r. ⌜ r ≡ choose (reads-register b) (2 ^ (b % 64)) 0 ⌝ }
+{
+    (1 - b / 128) << (b % 64)
+}
+
+// The register that it releases.
+fn kill_in(b: u64) -> u64
+    requires { ⌜ b < 256 ⌝ }
+    ensures { λ r. ⌜ r ≡ choose (kills-register b) (2 ^ (b % 64)) 0 ⌝ }
+{
+    read_in(b) * (b / 64 % 2)
+}
+
+// What a word does, of which the quick way of reading has found f.
+pub(crate) fn effect_of(f: u64, w: u64) -> Effect
+    ensures does { λ e. ⌜ (Found w f → Does e (instruction-of (row-in f) w)) ⌝ }
+    ensures known { λ e. ⌜ e .known ≡ not (eqb f none) ⌝ }
+{
+    let s0 = bits_at(f, 0, 8);
+    let s1 = bits_at(f, 8, 8);
+    let s2 = bits_at(f, 16, 8);
+    let s3 = bits_at(f, 24, 8);
+    let mut reads = read_in(s0) | read_in(s1) | read_in(s2);
+    let mut kills = kill_in(s0) | kill_in(s1) | kill_in(s2);
+    if s3 < 128 {
+        reads = reads | read_in(s3);
+        kills = kills | kill_in(s3);
+    }
+    let defines = ((bits_at(w, 46, 2) + 1) / 4) << bits_at(w, 40, 6);
+    Effect {
+        known: f != NONE,
+        reads,
+        kills,
+        defines,
+        ends: bits_at(w, 59, 5) == 15,
+        branches: f / 4294967296 == 1,
+        offset: offset_of(bits_at(w, 8, 27)),
     }
 }

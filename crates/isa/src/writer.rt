@@ -4,13 +4,13 @@ ghost use mathlib.Core.Bool.{Bool};
 ghost use Prim.Native.Nat.{_<_, _^_};
 ghost use lib.Dec.{T, ltb};
 ghost use Rattle.bits.specs.Fields.{join, fit};
-ghost use Rattle.isa.specs.Rows.{row-of, row-count};
-ghost use Rattle.isa.specs.Layout.{slots, slot-count, width-of};
+ghost use Rattle.rows.specs.Rows.{row-of, row-count};
+ghost use Rattle.rows.specs.Layout.{slots, slot-count, width-of};
 ghost use Rattle.isa.specs.Instructions.{offset-number, second-number, numbers};
 ghost use Rattle.isa.specs.Writer.{judge-instruction, fields, same-list, same, is-record, write, stored};
 ghost use Rattle.isa.specs.Answers.{judging, reading, writing};
 ghost use Rattle.isa.specs.Demand2.{WrittenAsAsked};
-ghost use Rattle.isa.specs.Table.{table};
+ghost use Rattle.rows.specs.Table.{table};
 use crate::answer::Legality;
 use crate::answer::Reading;
 use crate::answer::Refusal;
@@ -18,8 +18,8 @@ use crate::answer::Written;
 use crate::instruction::Instruction;
 use crate::legality::judge_numbers;
 use crate::reader::read_number;
-use crate::table;
 use bits::bytes::store64;
+use rows::table;
 
 // The 27 bits of an offset; a larger number where it is out of range.
 fn offset_number(z: i32) -> u64
@@ -123,7 +123,7 @@ fn join_numbers(t: &table::Table, row: usize, v: [u64; table::SLOTS]) -> u64
     let mut w = 0;
     let mut i = 0;
     while i < table::SLOTS {
-        w += v[i] << table::low_at(t, i);
+        w += v[i] << table::low_at(i);
         i += 1;
     }
     w
@@ -236,7 +236,7 @@ pub fn write_word(i: Instruction, buffer: &mut [u8]) -> Written
         Legality::Legal => {
             let row = i.row as usize;
             let w = join_numbers(&t, row, numbers_of(&t, i));
-            if is_record(read_number(&t, w), i) {
+            if is_record(read_number(w), i) {
                 store64(w, buffer);
                 return Written::Done;
             }

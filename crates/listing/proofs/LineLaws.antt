@@ -16,11 +16,11 @@ use Rattle.isa.specs.declared.instruction.Instruction.{Instruction}
 use Rattle.isa.specs.declared.answer.Refusal.{Refusal}
 use Rattle.isa.specs.Reader.{read}
 use Rattle.container.specs.Container.{eight}
-use Rattle.isa.specs.Rows.{Row, rows, row-of, no-row, row-count}
-use Rattle.isa.specs.Names.{ascii, name-of, name-width, padded, name, names as all-names, before-space}
-use Rattle.isa.specs.declared.names.Name.{Name}
-use Rattle.isa.proofs.TableLaws.{in-table}
-use Rattle.isa.proofs.NameLaws.{name-in, name-there, no-name}
+use Rattle.rows.specs.Rows.{Row, rows, row-of, no-row, row-count}
+use Rattle.rows.specs.Names.{ascii, name-of, name-width, padded, name, names as all-names, before-space}
+use Rattle.rows.specs.declared.names.Name.{Name}
+use Rattle.rows.proofs.TableLaws.{in-table}
+use Rattle.rows.proofs.NameLaws.{name-in, name-there, no-name}
 use Rattle.listing.specs.Text.{space, line-feed, decimal, hex, Put}
 use Rattle.listing.specs.Listing.{name-in as name-read, line}
 

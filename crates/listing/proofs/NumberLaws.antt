@@ -12,8 +12,8 @@ use Rattle.bits.specs.Outcomes.{Outcome, gives, refuses, passes, require, _then
 use Rattle.bits.proofs.OutcomeLaws.{never}
 use Rattle.isa.specs.declared.instruction.Instruction.{Instruction}
 use Rattle.isa.specs.declared.answer.Refusal.{Refusal}
-use Rattle.isa.specs.Rows.{rows, row-count}
-use Rattle.isa.specs.Layout.{slot-count, low-of}
+use Rattle.rows.specs.Rows.{rows, row-count}
+use Rattle.rows.specs.Layout.{slot-count, low-of}
 use Rattle.isa.specs.Answers.{refusal}
 use Rattle.isa.specs.Instructions.{numbers, instruction-of}
 use Rattle.isa.specs.Legality.{first-refused, judge}

@@ -9,7 +9,7 @@ use Rattle.bits.specs.Bytes.{little}
 use Rattle.bits.specs.Outcomes.{Outcome, gives, refuses, _then_}
 use Rattle.isa.specs.declared.instruction.Instruction.{Instruction}
 use Rattle.isa.specs.declared.answer.Refusal.{Refusal}
-use Rattle.isa.specs.Names.{ascii, name-of, name-width}
+use Rattle.rows.specs.Names.{ascii, name-of, name-width}
 use Rattle.isa.specs.Reader.{read}
 use Rattle.container.specs.Container.{count-of, words-of, eight}
 use Rattle.container.specs.Opening.{open-outcome}

@@ -42,9 +42,8 @@ fn put_words(bytes: &[u8], n: usize, out: &mut [u8]) -> usize
     ensures { λ r. ⌜ Put (lines (words-of (now (bytes .entry))) (count-of (now (bytes .entry)))) (now (out .entry)) (now (out .exit)) r × (r ≤ longest-line * n) ⌝ }
 {
     let middle = HEADER_LENGTH + WORD_LENGTH * n;
-    let table = isa::table::made();
-    let names = isa::names::all();
-    put_lines(&table, &names, &bytes[HEADER_LENGTH..middle], n, out)
+    let names = rows::names::all();
+    put_lines(&names, &bytes[HEADER_LENGTH..middle], n, out)
 }
 
 // Writes the listing of a container at the front of a buffer and answers how many bytes it has. A buffer with less room than 41 bytes

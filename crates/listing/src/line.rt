@@ -5,17 +5,15 @@ use crate::text::put_spaced;
 use bits::bytes::load64;
 use container::layout::WORD_LENGTH;
 use isa::answer::Reading;
-use isa::names::WIDTH;
-use isa::table::ROWS;
-use isa::table::Table;
+use rows::names::WIDTH;
+use rows::table::ROWS;
 use verifier::program::reading_at;
 ghost use mathlib.Core.Path.{_≡_};
 ghost use mathlib.Core.List.{_∷_};
 ghost use Prim.Native.Nat.{_+_, _*_, _<_, _≤_};
 ghost use lib.ListN.{length};
 ghost use Rattle.isa.specs.Answers.{reading};
-ghost use Rattle.isa.specs.Names.{name-of, name-width, names as all-names};
-ghost use Rattle.isa.specs.Table.{table};
+ghost use Rattle.rows.specs.Names.{name-of, name-width, names as all-names};
 ghost use Rattle.verifier.specs.Program.{Worded};
 ghost use Rattle.listing.specs.Text.{space, Put};
 ghost use Rattle.listing.specs.Listing.{name-in, line, lines, longest-line};
@@ -58,14 +56,14 @@ fn put_reading(names: &Names, r: Reading, out: &mut [u8]) -> usize
 }
 
 // The line of word i of n.
-fn put_line(t: &Table, names: &Names, words: &[u8], n: usize, i: usize, out: &mut [u8]) -> usize
-    requires { ⌜ Worded (now words) n × (i < n) × (now t ≡ table) × (now names ≡ all-names) × (longest-line ≤ length (now out)) ⌝ }
+fn put_line(names: &Names, words: &[u8], n: usize, i: usize, out: &mut [u8]) -> usize
+    requires { ⌜ Worded (now words) n × (i < n) × (now names ≡ all-names) × (longest-line ≤ length (now out)) ⌝ }
     ensures { λ r. ⌜ Put (line (now (words .entry)) i) (now (out .entry)) (now (out .exit)) r × (r ≤ longest-line) ⌝ }
 {
     let start = WORD_LENGTH * i;
     let end = start + WORD_LENGTH;
     let w = load64(&words[start..end]);
-    let r = reading_at(t, words, n, i);
+    let r = reading_at(words, n, i);
     let mut at = put_digits(i as u64, 10, 4, out);
     at += put_spaced(w, 16, 16, &mut out[at..]);
     at += put_reading(names, r, &mut out[at..]);
@@ -74,14 +72,14 @@ fn put_line(t: &Table, names: &Names, words: &[u8], n: usize, i: usize, out: &mu
 }
 
 // The lines of n words.
-pub(crate) fn put_lines(t: &Table, names: &Names, words: &[u8], n: usize, out: &mut [u8]) -> usize
-    requires { ⌜ Worded (now words) n × (now t ≡ table) × (now names ≡ all-names) × (longest-line * n ≤ length (now out)) ⌝ }
+pub(crate) fn put_lines(names: &Names, words: &[u8], n: usize, out: &mut [u8]) -> usize
+    requires { ⌜ Worded (now words) n × (now names ≡ all-names) × (longest-line * n ≤ length (now out)) ⌝ }
     ensures { λ r. ⌜ Put (lines (now (words .entry)) n) (now (out .entry)) (now (out .exit)) r × (r ≤ longest-line * n) ⌝ }
 {
     let mut at = 0;
     let mut i = 0;
     while i < n {
-        at += put_line(t, names, words, n, i, &mut out[at..]);
+        at += put_line(names, words, n, i, &mut out[at..]);
         i += 1;
     }
     at

@@ -2,12 +2,10 @@
 ghost use mathlib.Core.Path.{_≡_};
 ghost use Prim.Native.Nat.{_+_, _≤_};
 ghost use lib.ListN.{length};
-ghost use Rattle.isa.specs.Table.{table};
 use bits::bytes::load64;
 use isa::answer::Reading;
 use isa::answer::Refusal;
-use isa::reader::read_with;
-use isa::table::Table;
+use isa::reader::read_word;
 
 fn text(s: &[u8]) {
     io::write_all(libc::STDOUT_FILENO, s);
@@ -27,18 +25,18 @@ fn say_start(bytes: &[u8], len: usize) {
 }
 
 fn say_name(row: usize) {
-    let n = isa::names::of_row(row);
+    let n = rows::names::of_row(row);
     let bytes = n.bytes;
     let len = n.len as usize;
     say_start(&bytes, len);
 }
 
-fn say_word(t: &Table, bytes: &[u8])
-    requires { ⌜ (now t ≡ table) × (length (now bytes) ≡ 8) ⌝ }
+fn say_word(bytes: &[u8])
+    requires { ⌜ length (now bytes) ≡ 8 ⌝ }
 {
     io::print_hex(libc::STDOUT_FILENO, load64(bytes), 16);
     text(b" ");
-    let r = read_with(t, bytes);
+    let r = read_word(bytes);
     match r {
         Reading::Read(x) => say_name(x.row as usize),
         Reading::Refused(f) => say_refusal(f),
@@ -47,13 +45,11 @@ fn say_word(t: &Table, bytes: &[u8])
 }
 
 // The words that stand there whole.
-fn say_words(t: &Table, s: &[u8])
-    requires { ⌜ now t ≡ table ⌝ }
-{
+fn say_words(s: &[u8]) {
     let mut at = 0;
     while 8 <= s.len() - at {
         let end = at + 8;
-        say_word(t, &s[at..end]);
+        say_word(&s[at..end]);
         at = end;
     }
 }
@@ -61,8 +57,7 @@ fn say_words(t: &Table, s: &[u8])
 fn main() {
     let mut buffer = [0u8; 4096];
     let n = io::read_full(libc::STDIN_FILENO, &mut buffer);
-    let t = isa::table::made();
     if n <= 4096 {
-        say_words(&t, &buffer[..n]);
+        say_words(&buffer[..n]);
     }
 }

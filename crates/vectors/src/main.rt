@@ -29,7 +29,7 @@ fn say_start(bytes: &[u8], len: usize) {
 }
 
 fn say_name(row: usize) {
-    let n = isa::names::of_row(row);
+    let n = rows::names::of_row(row);
     let bytes = n.bytes;
     let len = n.len as usize;
     say_start(&bytes, len);

@@ -12,9 +12,9 @@ use Rattle.bits.specs.Fields.{assigned}
 use Rattle.bits.specs.Sets.{Has, minus, lowest-from}
 use Rattle.bits.specs.Outcomes.{refuses, passes, _then_}
 use Rattle.bits.proofs.OutcomeLaws.{never}
-use Rattle.isa.specs.Rows.{rows}
-use Rattle.isa.specs.Layout.{modifier-at, layout}
-use Rattle.isa.specs.Sources.{meaning}
+use Rattle.rows.specs.Rows.{rows}
+use Rattle.rows.specs.Layout.{modifier-at, layout}
+use Rattle.rows.specs.Sources.{meaning}
 use Rattle.bits.specs.Signed.{unsigned, signed}
 use Rattle.isa.specs.Instructions.{numbers}
 use Rattle.isa.specs.Legality.{scan, judge}

@@ -19,6 +19,10 @@ use Rattle.verifier.specs.Walks.{Inside}
 use Rattle.verifier.specs.Program.{landing}
 use Rattle.verifier.specs.Verdict.{Judgement, finding, no-register, first, each, none-missing, judge-successor}
 
+-- what is false is not true
+pub untrue : {X : Type 0} → _≡_ {A = Bool} false true → X
+untrue e = let z : _≡_ {A = ℕ} 0 1 = cc in absurd (omega arith)
+
 pub both : {a b : Judgement} → (a then b) ≡ passes → (a ≡ passes) × (b ≡ passes)
 both {a} {b} e = then-gives a b tt e
 
@@ -151,6 +155,9 @@ module _ (n : ℕ) (annotation : ℕ → ℕ) (i held : ℕ) where
   pub inside-to : (j : ℕ) → j < n → none-missing 22 i (annotation j) held ≡ judge-successor n annotation i held (pos j)
   unfolding judge-successor _then_
   inside-to j h = rw (lt-ltb j n h)
+
+  pub reached : (j : ℕ) → j < n → minus (annotation j) held ≡ 0 → judge-successor n annotation i held (pos j) ≡ passes
+  reached j h e = successor-to (pos j) (record { index = j; is = refl; below = h }) e
 
   pub outside-to : (j : ℕ) → n ≤ j → refuses (finding 21 0 i no-register) ≡ judge-successor n annotation i held (pos j)
   unfolding judge-successor _then_

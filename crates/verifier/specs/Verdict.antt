@@ -1,5 +1,6 @@
 -- The verdict (the paper's check), in the order of paper 01: "Checking: opening; then the lowest unreadable word with its number; then 23;
 -- then by instruction 20, and for the fall-through then the branch target 21, 22."
+use mathlib.Core.Path.{_≡_}
 use mathlib.Core.List.{List, [], _∷_}
 use Prim.Native.Nat.{ℕ, zero, suc}
 use lib.Dec.{eqb, ltb}
@@ -8,15 +9,16 @@ use Rattle.bits.specs.Sets.{minus, lowest}
 use Rattle.bits.specs.Outcomes.{Outcome, gives, refuses, passes, require, _then_}
 use Rattle.isa.specs.declared.instruction.Instruction.{Instruction}
 use Rattle.isa.specs.declared.answer.Refusal.{Refusal}
+use Rattle.isa.specs.declared.registers.Effect.{Effect}
 use Rattle.isa.specs.Reader.{read}
-use Rattle.isa.specs.Registers.{reads}
+use Rattle.isa.specs.Registers.{reads, Does}
 use Rattle.container.specs.declared.header.Header.{Header}
 use Rattle.container.specs.Container.{count-of, words-of, eight}
 use Rattle.container.specs.Opening.{open-outcome}
 use Rattle.verifier.specs.declared.verdict.Finding.{Finding}
 use Rattle.verifier.specs.declared.verdict.Verdict.{Verdict}
 use Rattle.verifier.specs.declared.verdict.Verdict.the-variants.{Accepted, Refused}
-use Rattle.verifier.specs.Program.{Program, successors, after, program-of}
+use Rattle.verifier.specs.Program.{Program, successors, after, annotation-at, program-of}
 
 -- what a verdict ends with: nothing to tell, or "number, place (0 where none is named) and, from a check, instruction index and lowest
 -- offending register, or 64 if no register is at fault"
@@ -73,6 +75,16 @@ unfoldable pub judge-instruction : ℕ → (ℕ → ℕ) → ℕ → Instruction
 judge-instruction n annotation i x =
     none-missing 20 i (reads x) (annotation i)
     then each (judge-successor n annotation i (after x (annotation i))) (successors x i)
+
+-- whatever instruction i is, if the effect says what it does, it is not refused
+abbrev pub Sound : ℕ → (ℕ → ℕ) → ℕ → Effect → Type 0
+Sound n annotation i e = (x : Instruction) → Does e x → judge-instruction n annotation i x ≡ passes
+
+-- the word at index i reads, and its instruction is not refused
+pub record PassesAt (words annotations : List ℕ) (n i : ℕ) : Type 0 where
+  pub instruction : Instruction
+  pub told : read (eight words i) ≡ gives instruction
+  pub judged : judge-instruction n (annotation-at annotations) i instruction ≡ passes
 
 abbrev pub judge-index : Program → ℕ → Judgement
 judge-index p i = judge-instruction (p .count) (p .annotation) i (p .instruction i)

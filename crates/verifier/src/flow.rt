@@ -7,12 +7,17 @@ use crate::verdict::refused;
 use bits::bytes::load64;
 use bits::sets::missing;
 use container::layout::ANNOTATION_LENGTH;
+use container::layout::WORD_LENGTH;
 use isa::instruction::Instruction;
+use isa::reader::effect_in;
+use isa::registers::Effect;
 ghost use mathlib.Core.Path.{_≡_};
-ghost use Prim.Native.Nat.{_+_, _*_, _<_};
+ghost use mathlib.Core.Bool.{true};
+ghost use Prim.Native.Nat.{ℕ, _+_, _*_, _<_};
 ghost use lib.IntN.{pos, _+ℤ_};
-ghost use Rattle.verifier.specs.Program.{successors, landing, after, annotation-at, Annotated};
-ghost use Rattle.verifier.specs.Verdict.{verdict-outcome, each, judge-successor, judge-instruction};
+ghost use Rattle.bits.specs.Outcomes.{passes};
+ghost use Rattle.verifier.specs.Program.{successors, landing, after, annotation-at, Worded, Annotated};
+ghost use Rattle.verifier.specs.Verdict.{verdict-outcome, each, judge-successor, judge-instruction, Sound, PassesAt};
 
 // The numbers of the refusals, by reason.
 const READ_MISSING: u8 = 20;
@@ -93,4 +98,45 @@ pub(crate) fn judge_instruction(annotations: &[u8], n: usize, i: usize, x: Instr
     let before = annotation_at(annotations, n, i);
     let reads = none_missing(READ_MISSING, i, x.reads(), before);
     first_of(reads, judge_successors(annotations, n, i, x, before))
+}
+
+// Whether j is an instruction whose annotation names nothing but what is held.
+fn reaches(annotations: &[u8], n: usize, held: u64, j: usize) -> bool
+    requires { ⌜ Annotated (now annotations) n ⌝ }
+    ensures { λ r. ⌜ (r ≡ true → (i : ℕ) → judge-successor n (annotation-at (now (annotations .entry))) i held (pos j) ≡ passes) ⌝ }
+{
+    j < n && missing(annotation_at(annotations, n, j), held) == 0
+}
+
+// Whether an effect at instruction i is plainly sound.
+fn sound(annotations: &[u8], n: usize, i: usize, e: Effect) -> bool
+    requires { ⌜ Annotated (now annotations) n × (i < n) ⌝ }
+    ensures { λ r. ⌜ (r ≡ true → Sound n (annotation-at (now (annotations .entry))) i e) ⌝ }
+{
+    let before = annotation_at(annotations, n, i);
+    if missing(e.reads, before) != 0 {
+        return false;
+    }
+    if e.ends {
+        return true;
+    }
+    let held = missing(before, e.kills) | e.defines;
+    if !reaches(annotations, n, held, i + 1) {
+        return false;
+    }
+    if !e.branches {
+        return true;
+    }
+    reaches(annotations, n, held, branch_target(i, e.offset, n))
+}
+
+// Whether the word at index i reads and its instruction is sound, as far as that can be told at once.
+pub(crate) fn passes_at<'a>(words: &'a [u8], annotations: &'a [u8], n: usize, i: usize) -> bool
+    requires { ⌜ Worded (now words) n × Annotated (now annotations) n × (i < n) ⌝ }
+    ensures { λ r. ⌜ (r ≡ true → PassesAt (now (words .entry)) (now (annotations .entry)) n i) ⌝ }
+{
+    let start = WORD_LENGTH * i;
+    let end = start + WORD_LENGTH;
+    let e = effect_in(&words[start..end]);
+    e.known && sound(annotations, n, i, e)
 }

@@ -25,14 +25,7 @@ pub fn verify(bytes: &[u8]) -> Verdict
             let n = header.count;
             let entry = header.entry;
             let middle = HEADER_LENGTH + WORD_LENGTH * n;
-            let table = isa::table::made();
-            return judge_words(
-                &table,
-                &bytes[HEADER_LENGTH..middle],
-                &bytes[middle..],
-                n,
-                entry,
-            );
+            return judge_words(&bytes[HEADER_LENGTH..middle], &bytes[middle..], n, entry);
         }
         Opening::Refused(number) => {
             return refused(number, 0, 0, NO_REGISTER);

@@ -1,6 +1,7 @@
 // One pass over the words of a program and its annotations.
 use crate::flow::annotation_at;
 use crate::flow::judge_instruction;
+use crate::flow::passes_at;
 use crate::verdict::NO_REGISTER;
 use crate::verdict::Verdict;
 use crate::verdict::none_missing;
@@ -8,14 +9,12 @@ use crate::verdict::refused;
 use container::layout::WORD_LENGTH;
 use isa::answer::Reading;
 use isa::instruction::Instruction;
-use isa::reader::read_with;
-use isa::table::Table;
+use isa::reader::read_word;
 ghost use mathlib.Core.Path.{_≡_};
 ghost use Prim.Native.Nat.{_*_, _<_};
 ghost use Rattle.bits.specs.Outcomes.{_then_};
 ghost use Rattle.isa.specs.Answers.{reading};
 ghost use Rattle.isa.specs.Reader.{read};
-ghost use Rattle.isa.specs.Table.{table};
 ghost use Rattle.container.specs.Container.{eight};
 ghost use Rattle.verifier.specs.Program.{program-in, annotation-at, Worded, Annotated};
 ghost use Rattle.verifier.specs.Verdict.{verdict-outcome, first, judge-word, judge-instruction, judge-program};
@@ -24,13 +23,13 @@ ghost use Rattle.verifier.specs.Verdict.{verdict-outcome, first, judge-w
 const ENTRY_MISSING: u8 = 23;
 
 // The word at index i, read.
-pub fn reading_at(t: &Table, words: &[u8], n: usize, i: usize) -> Reading
-    requires { ⌜ Worded (now words) n × (i < n) × (now t ≡ table) ⌝ }
+pub fn reading_at(words: &[u8], n: usize, i: usize) -> Reading
+    requires { ⌜ Worded (now words) n × (i < n) ⌝ }
     ensures { λ r. ⌜ reading r ≡ read (eight (now (words .entry)) i) ⌝ }
 {
     let start = WORD_LENGTH * i;
     let end = start + WORD_LENGTH;
-    read_with(t, &words[start..end])
+    read_word(&words[start..end])
 }
 
 // The verdict that is kept so far, and where that accepts, the verdict on instruction i.
@@ -46,25 +45,26 @@ fn settle(kept: Verdict, annotations: &[u8], n: usize, i: usize, x: Instruction)
 
 // The verdict on n words and annotations, before which `entry` is defined. A word that does not read comes before any other refusal.
 pub(crate) fn judge_words<'a>(
-    t: &Table,
     words: &'a [u8],
     annotations: &'a [u8],
     n: usize,
     entry: u64,
 ) -> Verdict
-    requires { ⌜ Worded (now words) n × Annotated (now annotations) n × (0 < n) × (now t ≡ table) ⌝ }
+    requires { ⌜ Worded (now words) n × Annotated (now annotations) n × (0 < n) ⌝ }
     ensures { λ r. ⌜ verdict-outcome r ≡ (first (judge-word (now (words .entry))) n then judge-program (program-in (now (words .entry)) (now (annotations .entry)) n entry)) ⌝ }
 {
     let mut kept = none_missing(ENTRY_MISSING, 0, annotation_at(annotations, n, 0), entry);
     let mut i = 0;
     while i < n {
-        let r = reading_at(t, words, n, i);
-        match r {
-            Reading::Read(x) => {
-                kept = settle(kept, annotations, n, i, x);
-            }
-            Reading::Refused(f) => {
-                return refused(f.number, f.place, i, NO_REGISTER);
+        if !passes_at(words, annotations, n, i) {
+            let r = reading_at(words, n, i);
+            match r {
+                Reading::Read(x) => {
+                    kept = settle(kept, annotations, n, i, x);
+                }
+                Reading::Refused(f) => {
+                    return refused(f.number, f.place, i, NO_REGISTER);
+                }
             }
         }
         i += 1;

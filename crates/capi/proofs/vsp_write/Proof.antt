@@ -1,7 +1,7 @@
 use mathlib.Core.Path.{sym, ap, _∙_, subst}
 use Prim.Native.Nat.{ℕ, _<_, _≤_}
 use denote.Ref.{now}
-use Rattle.isa.specs.Rows.{row-count}
+use Rattle.rows.specs.Rows.{row-count}
 use Rattle.isa.specs.Answers.{writing}
 use Rattle.isa.specs.Writer.{write, stored}
 use Rattle.isa.specs.declared.instruction.Instruction.{Instruction}

@@ -11,9 +11,6 @@ mul-middle c = search needs
 add-middle : tie.Need-add-middle
 add-middle c = search needs
 
-made-requires : tie.Need-made-requires
-made-requires c κs = search needs
-
 all-requires : tie.Need-all-requires
 all-requires c κs = search needs
 
@@ -24,20 +21,20 @@ part-put-lines-start : tie.Need-part-put-lines-start
 part-put-lines-start c = search needs
 
 part-put-lines-end : tie.Need-part-put-lines-end
-part-put-lines-end c = words-inside (now (c .before .before .before .before .before .before .args .bytes)) (c .before .before .before .before .before .before .pre .0) (c .before .before .before .before .before .before .pre .1)
+part-put-lines-end c = words-inside (now (c .before .before .before .before .args .bytes)) (c .before .before .before .before .pre .0) (c .before .before .before .before .pre .1)
 
 put-lines-requires : tie.Need-put-lines-requires
 put-lines-requires c κs =
-    let p = c .before .before .before .before .before .before .before .before .pre in
-    (words-worded (now (c .before .before .before .before .before .before .before .before .args .bytes)) (p .0) (p .1), c .before .before .before .before .before .made .ensures, c .before .before .before .before .all .ensures, p .2)
+    let p = c .before .before .before .before .before .before .pre in
+    (words-worded (now (c .before .before .before .before .before .before .args .bytes)) (p .0) (p .1), c .before .before .before .all .ensures, p .2)
 
 same-length : tie.Need-same-length
 same-length c = search needs
 
 returns : tie.Need-returns
 returns c =
-    let p = c .before .before .before .before .before .before .before .before .before .before .before .pre in
-    (same-text (words-lines (now (c .before .before .before .before .before .before .before .before .before .before .before .args .bytes)) (p .0) (p .1)) (c .before .before .put-lines .ensures .0), c .before .before .put-lines .ensures .1)
+    let p = c .before .before .before .before .before .before .before .before .before .pre in
+    (same-text (words-lines (now (c .before .before .before .before .before .before .before .before .before .args .bytes)) (p .0) (p .1)) (c .before .before .put-lines .ensures .0), c .before .before .put-lines .ensures .1)
 
 pub put-words-spec : {M : Type 1} → statement M
 put-words-spec =
@@ -45,7 +42,6 @@ put-words-spec =
     (tie.spec
     mul-middle
     add-middle
-    made-requires
     all-requires
     sub-put-lines
     part-put-lines-start

@@ -5,10 +5,10 @@ use Rattle.mesa.proofs.say_words.Statement.{statement}
 use Rattle.mesa.proofs.say_words.Tie as tie
 
 abbrev Inv-loop : tie.InvT-loop
-Inv-loop t s at₀ at = at ≤ length s
+Inv-loop s at₀ at = at ≤ length s
 
 abbrev μ-loop : tie.MeasureT-loop
-μ-loop t s at₀ at = length s - at
+μ-loop s at₀ at = length s - at
 
 loop-holds : tie.Need-loop-holds Inv-loop μ-loop
 loop-holds c = omega arith
@@ -29,7 +29,7 @@ part-say-word-end : tie.Need-part-say-word-end Inv-loop μ-loop
 part-say-word-end c = omega arith
 
 say-word-requires : tie.Need-say-word-requires Inv-loop μ-loop
-say-word-requires c κs = (c .before .before .before .before .pre, simp (length-take, length-drop) (omega arith))
+say-word-requires c κs = simp (length-take, length-drop) (omega arith)
 
 loop-less : tie.Need-loop-less Inv-loop μ-loop
 loop-less c = omega arith

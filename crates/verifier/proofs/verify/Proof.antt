@@ -28,9 +28,6 @@ add-middle c =
     let z = sized s o in
     omega arith
 
-made-requires : tie.Need-made-requires
-made-requires c κs = search needs
-
 sub-judge-words : tie.Need-sub-judge-words
 sub-judge-words c = search needs
 
@@ -39,22 +36,22 @@ part-judge-words-start c = search needs
 
 part-judge-words-end : tie.Need-part-judge-words-end
 part-judge-words-end c =
-    let s = now (c .before .before .before .before .before .before .before .args .bytes) in
-    let o = opened-by (c .before .before .before .before .before .«open» .ensures) (c .before .before .before .header .given .1) in
+    let s = now (c .before .before .before .before .before .args .bytes) in
+    let o = opened-by (c .before .before .before .«open» .ensures) (c .before .header .given .1) in
     let z = sized s o in
     omega arith
 
 sub-judge-words-2 : tie.Need-sub-judge-words-2
 sub-judge-words-2 c =
-    let s = now (c .before .before .before .before .before .before .before .before .args .bytes) in
-    let o = opened-by (c .before .before .before .before .before .before .«open» .ensures) (c .before .before .before .before .header .given .1) in
+    let s = now (c .before .before .before .before .before .before .args .bytes) in
+    let o = opened-by (c .before .before .before .before .«open» .ensures) (c .before .before .header .given .1) in
     let z = sized s o in
     omega arith
 
 part-judge-words-start-2 : tie.Need-part-judge-words-start-2
 part-judge-words-start-2 c =
-    let s = now (c .before .before .before .before .before .before .before .before .args .bytes) in
-    let o = opened-by (c .before .before .before .before .before .before .«open» .ensures) (c .before .before .before .before .header .given .1) in
+    let s = now (c .before .before .before .before .before .before .args .bytes) in
+    let o = opened-by (c .before .before .before .before .«open» .ensures) (c .before .before .header .given .1) in
     let z = sized s o in
     omega arith
 
@@ -63,18 +60,18 @@ part-judge-words-end-2 c = search needs
 
 judge-words-requires : tie.Need-judge-words-requires
 judge-words-requires c κs =
-    let s = now (c .before .before .before .before .before .before .before .before .before .args .bytes) in
-    let o = opened-by (c .before .before .before .before .before .before .before .«open» .ensures) (c .before .before .before .before .before .header .given .1) in
-    let h = c .before .before .before .before .before .header .given .0 .0 in
+    let s = now (c .before .before .before .before .before .before .before .args .bytes) in
+    let o = opened-by (c .before .before .before .before .before .«open» .ensures) (c .before .before .before .header .given .1) in
+    let h = c .before .before .before .header .given .0 .0 in
     let z = sized s o in
-    (worded s h o, annotated s h o, omega arith, c .before .before .before .made .ensures)
+    (worded s h o, annotated s h o, omega arith)
 
 returns : tie.Need-returns
 returns c =
-    let s = now (c .before .before .before .before .before .before .before .before .before .before .args .bytes) in
-    let o = opened-by (c .before .before .before .before .before .before .before .before .«open» .ensures) (c .before .before .before .before .before .before .header .given .1) in
-    let e = opened-to s (c .before .before .before .before .before .before .header .given .0 .0) o (c .judge-words .ensures) in
-    (e, agreed s _ (bytes-below s (λ k. c .before .before .before .before .before .before .before .before .before .shared-slice-known .given k .fits)) e)
+    let s = now (c .before .before .before .before .before .before .before .before .args .bytes) in
+    let o = opened-by (c .before .before .before .before .before .before .«open» .ensures) (c .before .before .before .before .header .given .1) in
+    let e = opened-to s (c .before .before .before .before .header .given .0 .0) o (c .judge-words .ensures) in
+    (e, agreed s _ (bytes-below s (λ k. c .before .before .before .before .before .before .before .shared-slice-known .given k .fits)) e)
 
 enum-known-number : tie.Need-enum-known-number
 enum-known-number c = search needs
@@ -96,7 +93,6 @@ verify-spec =
     enum-known-header
     mul-middle
     add-middle
-    made-requires
     sub-judge-words
     part-judge-words-start
     part-judge-words-end

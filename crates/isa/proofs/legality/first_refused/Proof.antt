@@ -5,11 +5,11 @@ use lib.ListN.{getD, drop}
 use native.Mathlib.Numerals.{add-one}
 use borrow.Author.Needs.{needs}
 use Rattle.bits.proofs.FieldLaws.{fit-rule, fit-at}
-use Rattle.isa.specs.Rows.{row-of}
-use Rattle.isa.specs.Layout.{layout, slots, slot-count, slot-of, no-field, width-of, at-page}
+use Rattle.rows.specs.Rows.{row-of}
+use Rattle.rows.specs.Layout.{layout, slots, slot-count, slot-of, no-field, width-of, at-page}
 use Rattle.isa.specs.Legality.{scan, first-refused}
-use Rattle.isa.proofs.TableLaws.{layout-length}
-use Rattle.isa.proofs.RowLaws.{slots-length, slot-width}
+use Rattle.rows.proofs.TableLaws.{layout-length}
+use Rattle.rows.proofs.RowLaws.{slots-length, slot-width}
 use Rattle.isa.proofs.LegalityLaws.{scan-hit, scan-miss, scan-end}
 use Rattle.isa.proofs.legality.first_refused.Statement.{statement}
 use Rattle.isa.proofs.legality.first_refused.Tie as tie

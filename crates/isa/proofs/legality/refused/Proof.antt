@@ -5,10 +5,10 @@ use native.Mathlib.Nat.{lt-of-lt-of-le}
 use lib.Dec.{eqb}
 use lib.Pow.{pow-mono}
 use Rattle.bits.specs.Fields.{bits}
-use Rattle.isa.specs.Kinds.{about, within}
-use Rattle.isa.specs.Layout.{field-of, kind-of}
-use Rattle.isa.proofs.RowLaws.{width-narrow, width-source}
-use Rattle.isa.proofs.SetOfLaws.{has-set-of}
+use Rattle.rows.specs.Kinds.{about, within}
+use Rattle.rows.specs.Layout.{field-of, kind-of}
+use Rattle.rows.proofs.RowLaws.{width-narrow, width-source}
+use Rattle.rows.proofs.SetOfLaws.{has-set-of}
 use Rattle.isa.proofs.LegalityLaws.{other-number, refused-source, refused-other}
 use borrow.Author.Needs.{needs}
 use Rattle.isa.proofs.legality.refused.Statement.{statement}
@@ -36,7 +36,7 @@ source-ok-requires c κs =
     let a = c .before .before .before .args in
     let p = c .before .before .before .pre in
     let e = sym (c .before .before .number-at .ensures) ∙ c .before .if1 .left ∙ c .if2 .taken in
-    (p .0, p .3, lt-of-lt-of-le (p .5) (pow-mono (width-source (a .row) (a .i) (p .1) (p .2) e)))
+    (p .3, lt-of-lt-of-le (p .5) (pow-mono (width-source (a .row) (a .i) (p .1) (p .2) e)))
 
 returns-2 : tie.Need-returns-2
 returns-2 c =

@@ -2,16 +2,16 @@ use mathlib.Core.Path.{ap, _∙_}
 use Prim.Native.Nat.{ℕ, _-_}
 use lib.Dec.{eqb}
 use Rattle.bits.specs.Fields.{bits}
-use Rattle.isa.proofs.SourceLaws.{source-low, source-high}
+use Rattle.rows.proofs.SourceLaws.{source-low, source-high}
 use borrow.Author.Needs.{needs}
 use Rattle.isa.proofs.legality.source_ok.Statement.{statement}
 use Rattle.isa.proofs.legality.source_ok.Tie as tie
 
 returns : tie.Need-returns
-returns c = source-low (c .before .args .page) (c .before .args .b) (c .before .pre .1) (c .if1 .taken)
+returns c = source-low (c .before .args .page) (c .before .args .b) (c .before .pre .0) (c .if1 .taken)
 
-page-at-requires : tie.Need-page-at-requires
-page-at-requires c κs = search needs
+specials-requires : tie.Need-specials-requires
+specials-requires c κs = search needs
 
 bits-at-requires : tie.Need-bits-at-requires
 bits-at-requires c κs = search needs
@@ -20,8 +20,8 @@ returns-2 : tie.Need-returns-2
 returns-2 c =
     let a = c .before .before .before .args in
     let p = c .before .before .before .pre in
-    ap (λ (x : ℕ). eqb x 1) (c .bits-at .ensures .0 ∙ ap (λ (w : ℕ). bits w (a .b - 224) 1) (c .before .page-at .ensures))
-    ∙ source-high (a .page) (a .b) (p .1) (p .2) (c .before .before .if1 .left)
+    ap (λ (x : ℕ). eqb x 1) (c .bits-at .ensures .0 ∙ ap (λ (w : ℕ). bits w (a .b - 224) 1) (c .before .specials .ensures))
+    ∙ source-high (a .page) (a .b) (p .0) (p .1) (c .before .before .if1 .left)
 
 pub source-ok-spec : {M : Type 1} → statement M
-source-ok-spec = tie.close (tie.spec returns page-at-requires bits-at-requires returns-2)
+source-ok-spec = tie.close (tie.spec returns specials-requires bits-at-requires returns-2)

@@ -4,7 +4,7 @@ use native.Mathlib.Omega.{arith}
 use lib.ListN.{drop}
 use native.Mathlib.Numerals.{add-one}
 use borrow.Author.Needs.{needs}
-use Rattle.isa.specs.Rows.{rows, row-count}
+use Rattle.rows.specs.Rows.{rows, row-count}
 use Rattle.isa.specs.Reader.{find}
 use Rattle.isa.proofs.ReaderLaws.{find-hit, find-miss, find-end}
 use Rattle.isa.proofs.reader.find_row.Statement.{statement}

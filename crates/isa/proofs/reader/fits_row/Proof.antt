@@ -3,7 +3,7 @@ use Prim.Native.Nat.{ℕ}
 use native.Mathlib.Omega.{arith}
 use lib.Dec.{eqb}
 use Rattle.bits.specs.Fields.{bits}
-use Rattle.isa.proofs.RowLaws.{secondary}
+use Rattle.rows.proofs.RowLaws.{secondary}
 use Rattle.isa.proofs.ReaderLaws.{fits-no, fits-rest}
 use borrow.Author.Needs.{needs}
 use Rattle.isa.proofs.reader.fits_row.Statement.{statement}

@@ -7,9 +7,9 @@ use borrow.Author.Needs.{needs}
 use borrow.Author.Tests.{not-true, not-false}
 use Rattle.bits.specs.Fields.{fit}
 use Rattle.bits.proofs.FieldLaws.{fit-hit, fit-miss, fit-end}
-use Rattle.isa.specs.Rows.{row-of}
-use Rattle.isa.specs.Layout.{slots, slot-count, slot-of, no-field}
-use Rattle.isa.proofs.RowLaws.{slots-length, slot-width}
+use Rattle.rows.specs.Rows.{row-of}
+use Rattle.rows.specs.Layout.{slots, slot-count, slot-of, no-field}
+use Rattle.rows.proofs.RowLaws.{slots-length, slot-width}
 use Rattle.isa.proofs.writer.fit_numbers.Statement.{statement}
 use Rattle.isa.proofs.writer.fit_numbers.Tie as tie
 

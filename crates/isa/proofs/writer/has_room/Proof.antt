@@ -3,8 +3,8 @@ use Prim.Native.Nat.{ℕ, _^_, _≤_}
 use native.Mathlib.Omega.{arith}
 use lib.Dec.{ltb}
 use Rattle.bits.proofs.FieldLaws.{one-shl}
-use Rattle.isa.specs.Layout.{width-of}
-use Rattle.isa.proofs.RowLaws.{width-le}
+use Rattle.rows.specs.Layout.{width-of}
+use Rattle.rows.proofs.RowLaws.{width-le}
 use borrow.Author.Needs.{needs}
 use Rattle.isa.proofs.writer.has_room.Statement.{statement}
 use Rattle.isa.proofs.writer.has_room.Tie as tie

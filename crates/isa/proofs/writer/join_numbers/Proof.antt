@@ -7,9 +7,9 @@ use borrow.Author.Needs.{needs}
 use native.Mathlib.Nat.{zero-add}
 use Rattle.bits.specs.Fields.{join}
 use Rattle.bits.proofs.FieldLaws.{join-lt, join-step, join-end, fit-rule}
-use Rattle.isa.specs.Rows.{row-of}
-use Rattle.isa.specs.Layout.{slots, slot-count, slot-of, no-field, low-of}
-use Rattle.isa.proofs.RowLaws.{row-apart, slots-length, slot-low}
+use Rattle.rows.specs.Rows.{row-of}
+use Rattle.rows.specs.Layout.{slots, slot-count, slot-of, no-field, low-of}
+use Rattle.rows.proofs.RowLaws.{row-apart, slots-length, slot-low}
 use Rattle.isa.proofs.writer.join_numbers.Statement.{statement}
 use Rattle.isa.proofs.writer.join_numbers.Tie as tie
 

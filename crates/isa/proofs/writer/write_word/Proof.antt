@@ -5,8 +5,8 @@ use denote.Ref.{now}
 use lib.Dec.{T}
 use Rattle.bits.specs.Fields.{fit, join}
 use Rattle.bits.specs.Outcomes.{Outcome}
-use Rattle.isa.specs.Rows.{row-of}
-use Rattle.isa.specs.Layout.{slots}
+use Rattle.rows.specs.Rows.{row-of}
+use Rattle.rows.specs.Layout.{slots}
 use Rattle.isa.specs.Answers.{judging}
 use Rattle.isa.specs.Writer.{is-record, judge-instruction}
 use Rattle.isa.specs.declared.instruction.Instruction.{Instruction}
@@ -59,11 +59,11 @@ same-length c = search needs
 
 returns-2 : tie.Need-returns-2
 returns-2 c =
-    let i = c .before .before .before .before .before .before .before .before .before .before .before .before .before .before .before .before .before .before .before .before .args .i in
-    let b = now (c .before .before .before .before .before .before .before .before .before .before .before .before .before .before .before .before .before .before .before .before .args .buffer) in
+    let i = c .before .before .before .before .before .before .before .before .before .before .before .before .before .before .before .before .before .before .before .args .i in
+    let b = now (c .before .before .before .before .before .before .before .before .before .before .before .before .before .before .before .before .before .before .before .args .buffer) in
     settled-write i b
-    (done i b (c .before .before .before .before .before .before .before .before .before .before .before .before .before .before .before .before .before .before .if1 .left) (c .before .before .before .before .before .before .before .before .before .before .before .before .before .before .before .judge-instruction .result) (c .before .before .before .before .before .before .before .before .before .before .before .before .before .before .before .judge-instruction .ensures) (c .before .before .before .before .before .before .before .before .before .before .before .before .before .enum-told .given .1)
-    (c .before .before .before .before .before .before .before .before .join-numbers .result) (c .before .before .before .before .before .before .before .before .join-numbers .ensures ∙ ap (join (slots (row-of (i .row)))) (c .before .before .before .before .before .before .before .before .before .numbers-of .ensures))
+    (done i b (c .before .before .before .before .before .before .before .before .before .before .before .before .before .before .before .before .before .if1 .left) (c .before .before .before .before .before .before .before .before .before .before .before .before .before .before .judge-instruction .result) (c .before .before .before .before .before .before .before .before .before .before .before .before .before .before .judge-instruction .ensures) (c .before .before .before .before .before .before .before .before .before .before .before .before .enum-told .given .1)
+    (c .before .before .before .before .before .before .before .join-numbers .result) (c .before .before .before .before .before .before .before .join-numbers .ensures ∙ ap (join (slots (row-of (i .row)))) (c .before .before .before .before .before .before .before .before .numbers-of .ensures))
     (c .before .before .before .before .before .is-record .result) (c .before .before .before .before .before .is-record .ensures ∙ ap (λ (o : Outcome Refusal Instruction). is-record o i) (c .before .before .before .before .before .before .read-number .ensures))
     (c .before .before .before .before .if2 .taken) (c .before .before .store64 .ensures))
 
@@ -72,11 +72,11 @@ enum-known-d c = search needs
 
 returns-3 : tie.Need-returns-3
 returns-3 c =
-    let i = c .before .before .before .before .before .before .before .before .before .before .before .before .before .before .before .before .args .i in
-    let b = now (c .before .before .before .before .before .before .before .before .before .before .before .before .before .before .before .before .args .buffer) in
+    let i = c .before .before .before .before .before .before .before .before .before .before .before .before .before .before .before .args .i in
+    let b = now (c .before .before .before .before .before .before .before .before .before .before .before .before .before .before .before .args .buffer) in
     settled-write i b
-    (unread i b (c .before .before .before .before .before .before .before .before .before .before .before .before .before .before .if1 .left) (c .before .before .before .before .before .before .before .before .before .before .before .judge-instruction .result) (c .before .before .before .before .before .before .before .before .before .before .before .judge-instruction .ensures) (c .before .before .before .before .before .before .before .before .before .enum-told .given .1)
-    (c .before .before .before .before .join-numbers .result) (c .before .before .before .before .join-numbers .ensures ∙ ap (join (slots (row-of (i .row)))) (c .before .before .before .before .before .numbers-of .ensures))
+    (unread i b (c .before .before .before .before .before .before .before .before .before .before .before .before .before .if1 .left) (c .before .before .before .before .before .before .before .before .before .before .judge-instruction .result) (c .before .before .before .before .before .before .before .before .before .before .judge-instruction .ensures) (c .before .before .before .before .before .before .before .before .enum-told .given .1)
+    (c .before .before .before .join-numbers .result) (c .before .before .before .join-numbers .ensures ∙ ap (join (slots (row-of (i .row)))) (c .before .before .before .before .numbers-of .ensures))
     (c .before .is-record .result) (c .before .is-record .ensures ∙ ap (λ (o : Outcome Refusal Instruction). is-record o i) (c .before .before .read-number .ensures))
     (c .if2 .left))
 

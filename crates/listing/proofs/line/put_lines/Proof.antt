@@ -11,11 +11,11 @@ use Rattle.listing.proofs.line.put_lines.Statement.{statement}
 use Rattle.listing.proofs.line.put_lines.Tie as tie
 
 abbrev Inv-loop : tie.InvT-loop
-Inv-loop t names words n out₀ at₀ i₀ out at i =
+Inv-loop names words n out₀ at₀ i₀ out at i =
     (i ≤ n) × (at ≤ longest-line * i) × (length out ≡ length out₀) × Put (lines words i) out₀ out at
 
 abbrev μ-loop : tie.MeasureT-loop
-μ-loop t names words n out₀ at₀ i₀ out at i = n - i
+μ-loop names words n out₀ at₀ i₀ out at i = n - i
 
 loop-holds : tie.Need-loop-holds Inv-loop μ-loop
 unfolding lines
@@ -33,7 +33,7 @@ part-put-line-end c = omega arith
 put-line-requires : tie.Need-put-line-requires Inv-loop μ-loop
 put-line-requires c κs =
     let p = c .before .before .before .before .before .pre in
-    (p .0, c .before .loop-test .taken, p .1, p .2, simp (length-take, length-drop) (omega arith))
+    (p .0, c .before .loop-test .taken, p .1, simp (length-take, length-drop) (omega arith))
 
 add-at : tie.Need-add-at Inv-loop μ-loop
 add-at c = omega arith

@@ -7,8 +7,8 @@ use native.Mathlib.Omega.{arith}
 use lib.ListN.{length, take, drop, set, length-set}
 use denote.Ref.{now}
 use borrow.Author.Needs.{needs}
-use Rattle.isa.specs.Names.{name-of, name-width, padded, before-space}
-use Rattle.isa.proofs.NameLaws.{space-here, no-space, space-end}
+use Rattle.rows.specs.Names.{name-of, name-width, padded, before-space}
+use Rattle.rows.proofs.NameLaws.{space-here, no-space, space-end}
 use Rattle.listing.proofs.LineLaws.{length-padded, name-byte, copied, name-put, no-name-put}
 use Rattle.listing.proofs.line.put_name.Statement.{statement}
 use Rattle.listing.proofs.line.put_name.Tie as tie

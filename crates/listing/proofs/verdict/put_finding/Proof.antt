@@ -1,5 +1,5 @@
 use native.Mathlib.Omega.{arith}
-use Rattle.isa.specs.Names.{ascii}
+use Rattle.rows.specs.Names.{ascii}
 use Rattle.listing.specs.Listing.{verdict-line}
 use Rattle.listing.proofs.TextLaws.{put-next}
 use borrow.Author.Needs.{needs}

@@ -1,6 +1,6 @@
 use mathlib.Core.Path.{sym, ap}
 use native.Mathlib.Omega.{arith}
-use Rattle.isa.specs.Names.{ascii}
+use Rattle.rows.specs.Names.{ascii}
 use Rattle.verifier.specs.declared.verdict.Verdict.{Verdict}
 use Rattle.verifier.specs.Verdict.{verdict-outcome}
 use Rattle.listing.specs.Listing.{verdict-line}

@@ -14,22 +14,22 @@ mul-start c = search needs
 add-end : tie.Need-add-end
 add-end c = search needs
 
-sub-read-with : tie.Need-sub-read-with
-sub-read-with c = search needs
+sub-read-word : tie.Need-sub-read-word
+sub-read-word c = search needs
 
-part-read-with-start : tie.Need-part-read-with-start
-part-read-with-start c = search needs
+part-read-word-start : tie.Need-part-read-word-start
+part-read-word-start c = search needs
 
-part-read-with-end : tie.Need-part-read-with-end
-part-read-with-end c = search needs
+part-read-word-end : tie.Need-part-read-word-end
+part-read-word-end c = search needs
 
-read-with-requires : tie.Need-read-with-requires
-read-with-requires c κs = search needs
+read-word-requires : tie.Need-read-word-requires
+read-word-requires c κs = search needs
 
 returns : tie.Need-returns
 returns c =
     let a = c .before .before .before .args in
-    c .read-with .ensures ∙ ap (λ (k : ℕ). read (take k (drop (8 * a .i) (now (a .words))))) (add-sub-cancel-left (8 * a .i) 8)
+    c .read-word .ensures .0 ∙ ap (λ (k : ℕ). read (take k (drop (8 * a .i) (now (a .words))))) (add-sub-cancel-left (8 * a .i) 8)
 
 pub reading-at-spec : {M : Type 1} → statement M
 reading-at-spec =
@@ -37,8 +37,8 @@ reading-at-spec =
     (tie.spec
     mul-start
     add-end
-    sub-read-with
-    part-read-with-start
-    part-read-with-end
-    read-with-requires
+    sub-read-word
+    part-read-word-start
+    part-read-word-end
+    read-word-requires
     returns)

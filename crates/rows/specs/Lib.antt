@@ -1,0 +1,7 @@
+pub mod Kinds
+pub mod Rows
+pub mod Layout
+pub mod Sources
+pub mod Names
+pub mod Table
+pub mod Lines
