@@ -2,11 +2,12 @@
  * The C interface of the verified container checker (static library libcapi.a).
  *
  * Every function is total: it returns for every input, allocates nothing, keeps no state
- * and touches no memory but the buffers it is given. A pointer that comes with a length must
- * be good for that many bytes, a form for 32; none is null, and a buffer that is written to
- * overlaps no other.
+ * and touches no memory but the buffers it is given; calls from several threads are fine. A
+ * pointer that comes with a length must be good for that many bytes, a form for 32; none is
+ * null, even where the length is 0, and a buffer that is written to overlaps no other. No
+ * alignment is asked for.
  *
- * Numbers of refusals:
+ * Numbers of refusals; place is 0 but for 6 and 7, and 14 and 15 are never given:
  *    1  the bytes to read as a word aren't 8
  *    2  no row fits the word, or the row number is over 76
  *    3  an unassigned bit is 1
@@ -33,9 +34,22 @@
  *    3       register of the destination, 0 to 63
  *    4       half mask of the destination: 1 low, 2 high, 3 full
  *    5-8     sources 0 to 3, each as its byte in the word
- *    9-22    modifiers, named by their lowest bit in the word:
- *              9: 8   10: 10  11: 11  12: 24  13: 26  14: 28  15: 30
- *             16: 32  17: 34  18: 35  19: 36  20: 37  21: 38  22: 39
+ *    9-22    modifiers, by their lowest bit in the word; which of them a row has, and what
+ *            values are legal, is the instruction table's to say (crates/rows/specs/Rows.antt):
+ *       9      8   NaN mode
+ *      10      10  ftz
+ *      11      11  flush_inf
+ *      12      24  widen or swizzle of source 2
+ *      13      26  widen or swizzle of source 1
+ *      14      28  widen, swizzle or lane of source 0
+ *      15      30  round mode, result type, or saturate
+ *      16      32  condition, mux, or clamp
+ *      17      34  negate of source 2
+ *      18      35  absolute of source 2; BRANCHZ: conservative
+ *      19      36  negate of source 1, or swizzle of source 0; BRANCHZ: eq
+ *      20      37  absolute of source 1; BRANCHZ: combine
+ *      21      38  negate of source 0
+ *      22      39  absolute of source 0
  *    23      padding, 0
  *    24-27   branch offset from the next instruction: signed, 32 bits, little-endian,
  *            -67108864 to 67108863
@@ -68,11 +82,14 @@ enum {
     VSP_OFFSET = 24
 };
 
-/* The parts of an answer; place, index and register mean something only where it isn't 0. */
+/*
+ * The parts of an answer; place, index and register mean something only where it isn't 0.
+ * The last two are for vsp_check only.
+ */
 #define VSP_NUMBER(answer) ((unsigned)((answer) & 0xFF))
 #define VSP_PLACE(answer) ((unsigned)((answer) >> 8 & 0xFF))
-#define VSP_INDEX(verdict) ((unsigned)((verdict) >> 16 & 0xFFFF))
-#define VSP_REGISTER_OF(verdict) ((unsigned)((verdict) >> 32 & 0xFF))
+#define VSP_INDEX(verdict) ((unsigned)((uint64_t)(verdict) >> 16 & 0xFFFF))
+#define VSP_REGISTER_OF(verdict) ((unsigned)((uint64_t)(verdict) >> 32 & 0xFF))
 
 /*
  * Opens a container, reads all its words and checks its annotations. Writes nothing.
@@ -80,8 +97,8 @@ enum {
  * Gives 0 where the container is accepted: then on every walk from instruction 0 each
  * register that is read was in the entry set or fully written earlier, and not released
  * since, and no walk leaves the program. Otherwise number + 2^8 place + 2^16 index +
- * 2^32 register: the instruction at fault (0 where the container doesn't open) and the
- * lowest register at fault (64 where none is). The first refusal in this order:
+ * 2^32 register: the instruction at fault (0 where the container doesn't open; for 21 and
+ * 22 the one that has the successor) and the lowest register at fault (64 where none is). The first refusal in this order:
  * 12 (under 16 bytes), 10, 11, 13, 12; the lowest word that doesn't read, with its number,
  * 2 to 7; 23; then by instruction 20, and for the fall-through and then for the branch
  * target 21, 22.
@@ -112,7 +129,7 @@ uint32_t vsp_write(const uint8_t form[VSP_FORM], uint8_t *word, size_t length);
  * Gives 0 and fills all 32 bytes of the form, or 2 where the row is over 76 and leaves the
  * form as it was. A fresh instruction can always be written.
  */
-uint32_t vsp_fresh(uint64_t row, uint8_t form[VSP_FORM]);
+uint32_t vsp_fresh(size_t row, uint8_t form[VSP_FORM]);
 
 #ifdef __cplusplus
 }

@@ -248,6 +248,38 @@ fn undefined_after() {
     }
 }
 
+/// Faults late in a long program: an index above a byte together with a register.
+#[test]
+fn late_faults() {
+    let mut rng = Rng::new(316);
+    let (mut reads, mut afters) = (0, 0);
+    while reads < 20 || afters < 20 {
+        let program = Program::safe(&mut rng, Shape { count: 2048, branches: 10, ends: 0, registers: 40 });
+        let exact = program.exact();
+        let index = 300 + rng.below(1748);
+        let removed = program.reads(index);
+        if removed != 0 {
+            let mut annotations = exact.clone();
+            annotations[index] &= !removed;
+            let verdict = refused(Refusal::UndefinedRead, index, lowest(removed));
+            compare_check_as(&program.container(&annotations), verdict);
+            reads += 1;
+        }
+        let added = rng.member(!exact[index]);
+        let mut annotations = exact.clone();
+        annotations[index] |= added;
+        let lacks = |from: &usize| {
+            program.successors(*from).any(|next| next == index as i64)
+                && program.after(*from, annotations[*from]) & added == 0
+        };
+        if let Some(from) = (0..program.count()).find(lacks) {
+            let verdict = refused(Refusal::UndefinedAfter, from, lowest(added));
+            compare_check_as(&program.container(&annotations), verdict);
+            afters += u32::from(from > 255);
+        }
+    }
+}
+
 /// Several registers at fault: the lowest is named.
 #[test]
 fn random_annotations() {

@@ -38,11 +38,11 @@ module _ (f bs : List ℕ) where
       unfolding write-form word-after _then_
       not-0 p = (rw (eq-eqb (length bs) 8 l, lt-ltb (getD f 0 0) row-count m, p), rw (eq-eqb (length bs) 8 l, lt-ltb (getD f 0 0) row-count m, p))
 
-      through : padded f ≡ false → write-form f bs ≡ write (instruction-in f) bs
+      pub through : padded f ≡ false → write-form f bs ≡ write (instruction-in f) bs
       unfolding write-form _then_
       through p = rw (eq-eqb (length bs) 8 l, lt-ltb (getD f 0 0) row-count m, p)
 
-      kept : padded f ≡ false → word-after f bs ≡ stored (instruction-in f) bs
+      pub kept : padded f ≡ false → word-after f bs ≡ stored (instruction-in f) bs
       unfolding word-after stored
       kept p = rw (through p)
 

@@ -1,2 +1,3 @@
 pub mod Codes
 pub mod Form
+pub mod Promises

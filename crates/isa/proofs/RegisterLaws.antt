@@ -208,22 +208,6 @@ pub reads-lt : (i : Instruction) → reads i < 2 ^ 64
 unfolding reads
 reads-lt i = sources-lt reads-register i
 
-pub kills-lt : (i : Instruction) → kills i < 2 ^ 64
-unfolding kills
-kills-lt i = sources-lt kills-register i
-
-pub defines-lt : (i : Instruction) → defines i < 2 ^ 64
-unfolding defines
-defines-lt i = go (row-of (i .row) .destination && eqb (i .«half_mask») 3) (ltb (i .register) 64) refl
-  where
-    go : (t u : Bool) → ltb (i .register) 64 ≡ u → choose t (choose u (2 ^ (i .register)) 0) 0 < 2 ^ 64
-    go true u e = single-lt u e
-      where
-        single-lt : (u : Bool) → ltb (i .register) 64 ≡ u → choose u (2 ^ (i .register)) 0 < 2 ^ 64
-        single-lt true e = pow-lt (ltb-true (i .register) 64 e)
-        single-lt false e = pow-pos 64
-    go false u e = pow-pos 64
-
 -- a source's set, with the row's count as another gives it
 pub counted : (test : ℕ → Bool) (i : Instruction) (j b : ℕ) {n : ℕ} → n ≡ row-of (i .row) .sources
     → choose (ltb j n && test b) (2 ^ (b % 64)) 0 ≡ source-set test i j b

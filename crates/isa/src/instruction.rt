@@ -1,6 +1,5 @@
 ghost use mathlib.Core.Path.{_≡_};
 ghost use Prim.Native.Nat.{_<_};
-ghost use Rattle.rows.specs.Layout.{slot-count};
 ghost use Rattle.rows.specs.Rows.{row-count};
 ghost use Rattle.isa.specs.Defaults.{default-modifiers, fresh};
 ghost use Rattle.isa.specs.Answers.{making};

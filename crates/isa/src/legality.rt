@@ -1,6 +1,6 @@
 // What is legal, for reading and for writing.
 ghost use mathlib.Core.Path.{_≡_};
-ghost use Prim.Native.Nat.{_<_, _≤_, _^_};
+ghost use Prim.Native.Nat.{_<_, _^_};
 ghost use lib.Dec.{T};
 ghost use Rattle.bits.specs.Fields.{fit};
 ghost use Rattle.rows.specs.Sources.{source-legal};

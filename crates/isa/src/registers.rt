@@ -1,5 +1,5 @@
-// What an instruction does to registers, and where it goes. A row's shape is told from ranges of rows and not looked up, and sets are
-// made by arithmetic with 0 and 1, since a verifier asks for them at every word.
+// What an instruction does to registers, and where it goes. Sets are made by arithmetic with 0 and 1: whether a source is a register can't
+// be foretold, and a branch on it would cost more.
 use crate::instruction::Instruction;
 use crate::quick::NONE;
 use crate::reader::offset_of;

@@ -1,6 +1,5 @@
 // Writing instructions.
 ghost use mathlib.Core.Path.{_≡_};
-ghost use mathlib.Core.Bool.{Bool};
 ghost use Prim.Native.Nat.{_<_, _^_};
 ghost use lib.Dec.{T, ltb};
 ghost use Rattle.bits.specs.Fields.{join, fit};

@@ -102,19 +102,6 @@ one-row w i j hi hj p q = go (ltb i j) refl (ltb j i) refl
 or-right : (a b : Bool) → a ≡ false → T (a || b) → T b
 or-right a b e t = rw e at t
 
-width-test : ℕ → Field → Bool
-width-test i f = eqb i at-offset || (eqb i at-opcode || leb (width (f .kind)) 8)
-
-widths-right : T (every (on-fields width-test) 0 rows)
-unfolding width-test rows layout modifier-at
-widths-right = tt
-
-pub width-small : (k i : ℕ) → k < row-count → i < slot-count → i ≢ at-offset → i ≢ at-opcode → width-of k i ≤ 8
-unfolding width-test
-width-small k i hk hi n m =
-    leb→le _ _ (or-right (eqb i at-opcode) (leb (width-of k i) 8) (ne-eqb i at-opcode m)
-    (or-right (eqb i at-offset) (eqb i at-opcode || leb (width-of k i) 8) (ne-eqb i at-offset n) (at-field width-test widths-right k i hk hi)))
-
 span-test : ℕ → Field → Bool
 span-test i f = leb (width (f .kind)) 27
 

@@ -1,4 +1,4 @@
--- The numbers by which the quick way of reading sees that a word is legal, of each row.
+-- Each row as a line of numbers by which a word of it is seen to be legal, and as a number that says what fields its words have.
 use mathlib.Core.Path.{_≡_}
 use mathlib.Core.Bool.{Bool, true, _&&_, _||_, not}
 use mathlib.Core.List.{List, [], _∷_}
@@ -32,6 +32,7 @@ abbrev pub window-legal : ℕ → ℕ → List Modifier → ℕ → Bool
 window-legal l n [] x = true
 window-legal l n (m ∷ ms) x = (not (in-window l n m) || legal-in l m x) && window-legal l n ms x
 
+-- the values of those bits for which they are
 abbrev pub legal-window : ℕ → ℕ → Row → ℕ
 legal-window l n r = set-of (window-legal l n (r .modifiers)) (2 ^ n)
 
@@ -39,10 +40,11 @@ legal-window l n r = set-of (window-legal l n (r .modifiers)) (2 ^ n)
 abbrev pub third-low : Row → ℕ
 third-low r = choose (eqb (width (modifier-at (r .modifiers) 8)) 0) 32 8
 
+-- the legal half masks; where the row has no destination, any value
 abbrev pub legal-half-masks : Row → ℕ
 legal-half-masks r = choose (r .destination) (set-of (within (about half-mask .legal)) 4) 15
 
--- the row number above 32 bits; below them 192, a constant's byte, for each source from source c up
+-- from bit 32 up the row number; below, 192, a constant's byte, for each source from source c up (3233857728 is 0xC0C0C0C0)
 abbrev pub found-from : ℕ → ℕ → ℕ
 found-from k c = k * 4294967296 + 3233857728 / 2 ^ (c * 8) * 2 ^ (c * 8)
 
@@ -80,13 +82,12 @@ line-from k a b windows rest =
 abbrev pub no-line : Line
 no-line = line-from 0 0 1 0 0
 
--- a line is some row's, or no row's
+-- a line is some row's, or the one that no word fits
 pub data Right : Line → Type 0 where
   nobody's : Right no-line
   of-row : (k : ℕ) → k < row-count → Right (line-of k)
 
--- what fields the words of a row have: the widths of the modifiers, three bits each, ordered by lowest bit; then a bit for each source, one
--- for the offset and one for the destination
+-- the widths of modifiers, by lowest bit, three bits each
 abbrev pub packed-widths : List Modifier → List ℕ → ℕ
 packed-widths ms [] = 0
 packed-widths ms (p ∷ ps) = width (modifier-at ms p) + 8 * packed-widths ms ps
@@ -94,6 +95,8 @@ packed-widths ms (p ∷ ps) = width (modifier-at ms p) + 8 * packed-widths ms ps
 abbrev pub one-if : Bool → ℕ
 one-if t = choose t 1 0
 
+-- what fields the words of a row have: the widths of the modifiers; from bit 42 up a bit for each source; bit 46 for the offset, bit 47 for
+-- the destination
 unfoldable pub fields-of : Row → ℕ
 fields-of r =
     packed-widths (r .modifiers) modifier-lows
@@ -105,7 +108,7 @@ fields-of r =
 abbrev pub width-at : ℕ → ℕ → ℕ
 width-at fields i = bits fields (3 * i) 3
 
--- a line's sets have what a word has there
+-- the flow, with bit 63 above it, is not reserved, and a line's sets have what the word has there
 pub record Allows (l : Line) (w : ℕ) : Type 0 where
   pub flow : has 43007 (bits w 59 5) ≡ true
   pub window-26 : has (l .«legal_26») (bits w 26 5) ≡ true

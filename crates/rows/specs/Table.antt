@@ -1,13 +1,13 @@
 -- The rows as lines of numbers, for looking them up.
 use mathlib.Core.Bool.{Bool, not}
-use mathlib.Core.List.{List, [], _∷_, _++_, map}
+use mathlib.Core.List.{List, [], _∷_, map}
 use Prim.Native.Nat.{ℕ, zero, suc, _+_, _*_, _^_}
 use lib.Dec.{eqb}
 use lib.ListN.{take, drop}
 use Rattle.bits.specs.Fields.{choose, mask}
 use Rattle.rows.specs.Kinds.{Kind, width, about, within, absent, flag, two-bits, widen, swizzle-half, swizzle-32, swizzle-16, swizzle-8, half-swizzle, condition, integer-condition, mux, combine, nan-mode, source, offset, second, register, half-mask, opcode, page, flow}
 use Rattle.rows.specs.Rows.{Row, rows}
-use Rattle.rows.specs.Layout.{Field, layout, slots, low-of}
+use Rattle.rows.specs.Layout.{Field, layout, slots}
 use Rattle.rows.specs.Sources.{is-reserved, special-at}
 
 -- the kinds in the order of their numbers

@@ -51,7 +51,8 @@ const W16_BOTH: u64 = 0x3FFF3FFF3FFF3FFF;
 
 const W8_BOTH: u64 = 0xFFF0FFF0FFF0FFF;
 
-// The legal values of five more bits; from bit 32 up those of the half mask, then where the five bits stand, and how many sources there are.
+// The legal values of five more bits; from bit 32 up those of the half mask, from bit 40 up where the five bits stand, and from bit 48 up how
+// many sources there are.
 const NONE_BARE: u64 = 0x200FFFFFFFFF;
 
 const ONE_BARE: u64 = 0x1200FFFFFFFFF;
@@ -70,7 +71,7 @@ const THREE: u64 = 0x3200EFFFFFFFF;
 
 const COMPARE: u64 = 0x3200E3F3F3F3F;
 
-// Row `row`'s line.
+// A line from its packed numbers.
 fn line_with(row: u64, fixed_bits: u64, fixed: u64, windows: u64, rest: u64) -> Line
     ensures { λ l. ⌜ l ≡ line-from row «fixed_bits» fixed windows rest ⌝ }
 {
@@ -129,7 +130,7 @@ fn group_at(hash: u64) -> Group
     }
 }
 
-// The line in a cell; none is a line that no word fits.
+// The line in a cell; in an empty cell, one that no word fits.
 fn line_at(cell: u64) -> Line
     ensures { λ l. ⌜ Right l ⌝ }
 {
@@ -215,7 +216,7 @@ fn line_at(cell: u64) -> Line
     }
 }
 
-// The line of the only row that a word can fit.
+// A row's line: as the index is made, that of the only row that the word can fit. The hash is apart for the 26 opcodes.
 pub fn line_of(w: u64) -> Line
     ensures { λ l. ⌜ Right l ⌝ }
 {

@@ -1,6 +1,5 @@
 // The names of the rows, as the lister writes them.
 ghost use mathlib.Core.Path.{_≡_};
-ghost use Prim.Native.Nat.{_≤_};
 ghost use Rattle.rows.specs.Names.{before-space, name, names};
 use crate::table;
 

@@ -1,7 +1,6 @@
 // The instruction table, a line of numbers for each row, and looking things up in it. A public call makes it once and lends it.
 ghost use mathlib.Core.Path.{_≡_};
-ghost use mathlib.Core.Logic.{_≢_};
-ghost use Prim.Native.Nat.{_+_, _*_, _<_, _≤_, _^_};
+ghost use Prim.Native.Nat.{_<_};
 ghost use lib.ListN.{getD};
 ghost use Rattle.rows.specs.Kinds.{about, absent};
 ghost use Rattle.rows.specs.Rows.{row-of, row-count};

@@ -76,16 +76,6 @@ judge-instruction n annotation i x =
     none-missing 20 i (reads x) (annotation i)
     then each (judge-successor n annotation i (after x (annotation i))) (successors x i)
 
--- whatever instruction i is, if the effect says what it does, it is not refused
-abbrev pub Sound : ℕ → (ℕ → ℕ) → ℕ → Effect → Type 0
-Sound n annotation i e = (x : Instruction) → Does e x → judge-instruction n annotation i x ≡ passes
-
--- the word at index i reads, and its instruction is not refused
-pub record PassesAt (words annotations : List ℕ) (n i : ℕ) : Type 0 where
-  pub instruction : Instruction
-  pub told : read (eight words i) ≡ gives instruction
-  pub judged : judge-instruction n (annotation-at annotations) i instruction ≡ passes
-
 abbrev pub judge-index : Program → ℕ → Judgement
 judge-index p i = judge-instruction (p .count) (p .annotation) i (p .instruction i)
 
@@ -99,3 +89,13 @@ verdict-of s =
     judge-opening (open-outcome s)
     then first (judge-word (words-of s)) (count-of s)
     then judge-program (program-of s)
+
+-- whatever instruction i is, if the effect says what it does, it is not refused
+abbrev pub Sound : ℕ → (ℕ → ℕ) → ℕ → Effect → Type 0
+Sound n annotation i e = (x : Instruction) → Does e x → judge-instruction n annotation i x ≡ passes
+
+-- the word at index i reads, and its instruction is not refused
+pub record PassesAt (words annotations : List ℕ) (n i : ℕ) : Type 0 where
+  pub instruction : Instruction
+  pub told : read (eight words i) ≡ gives instruction
+  pub judged : judge-instruction n (annotation-at annotations) i instruction ≡ passes

@@ -47,10 +47,11 @@ fn main() -> ExitCode {
     println!("Both are release builds on the same inputs, timed in turns; no buffer is cleared between calls.");
     match std::env::args_os().nth(1) {
         Some(lister) if Path::new(&lister).is_file() => time_lister(Path::new(&lister)),
-        _ => {
+        Some(_) => {
             println!("lister: not built");
-            ExitCode::SUCCESS
+            ExitCode::FAILURE
         }
+        None => ExitCode::SUCCESS,
     }
 }
 

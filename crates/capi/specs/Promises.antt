@@ -1,0 +1,48 @@
+-- What the header include/vsp.h promises of several calls together. Where a call gives an instruction i, the form it leaves is form-of i;
+-- where a form is written, the buffer is then word-after. Bytes are numbers below 256.
+use mathlib.Core.Path.{_≡_}
+use mathlib.Core.List.{List}
+use mathlib.Core.Logic.{_↔_}
+use Prim.Native.Nat.{ℕ, _<_}
+use lib.ListN.{length, getD}
+use Rattle.bits.specs.Outcomes.{Outcome, gives, passes}
+use Rattle.isa.specs.declared.instruction.Instruction.{Instruction}
+use Rattle.isa.specs.declared.answer.Refusal.{Refusal}
+use Rattle.isa.specs.Demand2.{Given}
+use Rattle.isa.specs.Reader.{read}
+use Rattle.isa.specs.Defaults.{fresh}
+use Rattle.verifier.specs.Verdict.{verdict-of}
+use Rattle.capi.specs.Codes.{outcome-code, verdict-code}
+use Rattle.capi.specs.Form.{form-of, write-form, word-after}
+
+-- "Gives 0 .., or number + 2^8 place": the code is 0 exactly where something is given, so that no refusal looks like success
+abbrev pub ZeroTells : {A : Type 0} → Outcome Refusal A → Type 0
+ZeroTells o = (outcome-code o ≡ 0) ↔ Given o
+
+-- so for each exported function
+pub record ZeroMeansDone : Type 0 where
+  -- vsp_read
+  pub of-read : (bs : List ℕ) → ZeroTells (read bs)
+  -- vsp_write
+  pub of-write : (f buffer : List ℕ) → ZeroTells (write-form f buffer)
+  -- vsp_fresh
+  pub of-fresh : (row : ℕ) → ZeroTells (fresh row)
+  -- vsp_check: "Gives 0 where the container is accepted"
+  pub of-check : (s : List ℕ) → (verdict-code (verdict-of s) ≡ 0) ↔ (verdict-of s ≡ passes)
+
+-- vsp_read: "Writing the form gives the same word again." Whatever the buffer of 8 bytes held, it then holds the bytes that were read.
+abbrev pub ReadThenWritten : Type 0
+ReadThenWritten =
+    (bs : List ℕ) → ((k : ℕ) → getD bs k 0 < 256) → (i : Instruction) → read bs ≡ gives i → (buffer : List ℕ) → length buffer ≡ 8
+    → (write-form (form-of i) buffer ≡ passes) × (word-after (form-of i) buffer ≡ bs)
+
+-- vsp_write: "Reading the word gives the same form again.", all 32 bytes of it
+abbrev pub WrittenThenRead : Type 0
+WrittenThenRead =
+    (f : List ℕ) → length f ≡ 32 → ((k : ℕ) → getD f k 0 < 256) → (buffer : List ℕ) → write-form f buffer ≡ passes
+    → (i : Instruction) × (read (word-after f buffer) ≡ gives i) × (form-of i ≡ f)
+
+-- vsp_fresh: "A fresh instruction can always be written."
+abbrev pub FreshThenWritten : Type 0
+FreshThenWritten =
+    (row : ℕ) (i : Instruction) → fresh row ≡ gives i → (buffer : List ℕ) → length buffer ≡ 8 → write-form (form-of i) buffer ≡ passes
