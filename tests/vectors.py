@@ -27,4 +27,5 @@ for w in (0xD8A40000300002FF, 0x58A40000300002FF, 0x00A40000300002FF, 0x00A4C000
 for k, row in enumerate(ROWS):
     w = word(k)
     assert read(w.to_bytes(8, 'little')) == ('read', k)
-    print(f'{k} {row["name"]} {w:016x} again')
+    # every row's words are known at once: nothing else in the gate would show a row that the index misses
+    print(f'{k} {row["name"]} {w:016x} again, known')

@@ -4,6 +4,7 @@ use isa::answer::Reading;
 use isa::answer::Refusal;
 use isa::answer::Written;
 use isa::instruction::Instruction;
+use isa::reader::effect_in;
 use isa::reader::read_word;
 use isa::writer::write_word;
 
@@ -202,7 +203,7 @@ fn faults() {
     reads_word(0x00A4C00000000201);
 }
 
-// A row's default, written and read back: its number, its name and its word.
+// A row's default, written and read back: its number, its name and its word, and whether its effect is seen at once.
 fn row_default(row: usize) {
     number(row as u64);
     text(b" ");
@@ -217,7 +218,17 @@ fn row_default(row: usize) {
         Reading::Read(i) => say_again(i, buffer),
         Reading::Refused(f) => say_refusal(f),
     }
+    say_known(&buffer);
     text(b"\n");
+}
+
+fn say_known(bytes: &[u8]) {
+    let e = effect_in(bytes);
+    if e.known {
+        text(b", known");
+    } else {
+        text(b", not known");
+    }
 }
 
 // Whether writing the record read gives the word again.
