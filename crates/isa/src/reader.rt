@@ -187,6 +187,7 @@ pub(crate) fn read_number(w: u64) -> Reading
     Reading::Read(instruction_of((f / 4294967296) as usize, w))
 }
 
+// The same of eight bytes, and 1 of any other count.
 fn read_bytes(bytes: &[u8]) -> Reading
     ensures { λ r. ⌜ reading r ≡ read (now (bytes .entry)) ⌝ }
 {

@@ -6,10 +6,10 @@ use Prim.Native.Nat.{ℕ, _+_, _-_, _*_, _/_, _%_, _^_, _<_}
 use lib.Dec.{eqb, leb}
 use Rattle.bits.specs.Fields.{bits, choose, mask}
 use Rattle.bits.specs.Sets.{has}
-use Rattle.rows.specs.Kinds.{width, about, within, half-mask}
+use Rattle.rows.specs.Kinds.{width, about, within, half-mask, flow}
 use Rattle.rows.specs.Rows.{Row, Modifier, row-of, row-count}
 use Rattle.rows.specs.Layout.{slots, modifier-at, modifier-lows}
-use Rattle.rows.specs.Table.{set-of}
+use Rattle.rows.specs.Table.{set-of, legal-set}
 use Rattle.rows.specs.declared.lines.Line.{Line}
 
 -- the bits that a row fixes: the unassigned ones, those of the opcode and those of the secondary opcode; and what a word of it has there
@@ -110,7 +110,7 @@ width-at fields i = bits fields (3 * i) 3
 
 -- the flow, with bit 63 above it, is not reserved, and a line's sets have what the word has there
 pub record Allows (l : Line) (w : ℕ) : Type 0 where
-  pub flow : has 43007 (bits w 59 5) ≡ true
+  pub flow : has (legal-set flow) (bits w 59 5) ≡ true
   pub window-26 : has (l .«legal_26») (bits w 26 5) ≡ true
   pub window-36 : has (l .«legal_36») (bits w 36 5) ≡ true
   pub half : has (l .«half_masks») (bits w 46 2) ≡ true

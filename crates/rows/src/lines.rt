@@ -89,13 +89,14 @@ fn line_with(row: u64, fixed_bits: u64, fixed: u64, windows: u64, rest: u64) -> 
     }
 }
 
+// A group from its numbers.
 fn grouped(low: u64, mask: u64, cell: u64) -> Group
-    ensures { λ g. ⌜ (g .mask ≡ mask) × (g .cell ≡ cell) ⌝ }
+    ensures { λ g. ⌜ (g .low ≡ low) × (g .mask ≡ mask) × (g .cell ≡ cell) ⌝ }
 {
     Group { low, mask, cell }
 }
 
-// The group of an opcode, by its hash.
+// The group of an opcode, by its hash. Nothing rests on it but which line is looked at, so its contract has only the bounds.
 fn group_at(hash: u64) -> Group
     ensures { λ g. ⌜ (g .mask < 32) × (g .cell < 256) ⌝ }
 {
