@@ -27,5 +27,4 @@ for w in (0xD8A40000300002FF, 0x58A40000300002FF, 0x00A40000300002FF, 0x00A4C000
 for k, row in enumerate(ROWS):
     w = word(k)
     assert read(w.to_bytes(8, 'little')) == ('read', k)
-    # every row's words are known at once: nothing else in the gate would show a row that the index misses
-    print(f'{k} {row["name"]} {w:016x} again, known')
+    print(f'{k} {row["name"]} {w:016x} again')

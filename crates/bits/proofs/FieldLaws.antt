@@ -14,7 +14,7 @@ use native.Mathlib.Numerals.{one-add}
 use lib.Pow.{pow-pos, pow-mono, pow-add, high, low, mod-pow-add, shl-exact, ones-split, ones-lt, shr-shr}
 use Rattle.bits.specs.Fields.{bits, Slot, split, join, fit, inside, assigned, apart, ones, mask}
 use Rattle.bits.specs.Sets.{has}
-use Rattle.bits.proofs.Every.{and-l, and-r}
+use Rattle.bits.proofs.Every.{and-both, and-l, and-r}
 
 -- a multiple of a higher power is one of a lower
 pub shifted : (r l n : ℕ) → r * 2 ^ (l + n) ≡ r * 2 ^ n * 2 ^ l
@@ -323,10 +323,6 @@ mask-has ss b p = go (assigned ss b) refl
     go false e = rw (join-blank b p (ones-fit ss) e, e)
 
 -- the numbers of a word have room
-and-both : (a b : Bool) → T a → T b → T (a && b)
-and-both true b s t = t
-and-both false b s t = absurd s
-
 pub split-fit : (ss : List Slot) (w : ℕ) → T (fit ss (split ss w))
 unfolding fit split
 split-fit [] w = tt

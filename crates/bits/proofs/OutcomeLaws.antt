@@ -1,8 +1,8 @@
--- Laws of outcomes. Assumes nothing.
-use mathlib.Core.Path.{_≡_, refl, sym, ap}
+-- Laws of outcomes, and what holds of every refusal of one. Assumes nothing.
+use mathlib.Core.Path.{_≡_, refl, sym, ap, subst}
 use mathlib.Core.Bool.{Bool, true, false}
 use mathlib.Core.Logic.{_⊎_, inl, inr}
-use Prim.Native.Nat.{ℕ}
+use Prim.Native.Nat.{ℕ, _≤_}
 use native.Mathlib.Omega.{arith}
 use Rattle.bits.specs.Outcomes.{Outcome, gives, refuses, passes, require, _then_}
 
@@ -35,10 +35,42 @@ module _ {R A : Type 0} where
       same : _≡_ {A = Outcome R A} (refuses q) (refuses r) → _≡_ {A = Outcome R (Unit {0})} (refuses q) (refuses r)
       same d = ap refuses cc
 
-pub refused : {R : Type 0} (t : Bool) (r q : R) → require t r ≡ refuses q → r ≡ q
-refused true r q e = never (sym e)
-refused false r q e = cc
-
 pub required : {R : Type 0} (t : Bool) (r : R) → require t r ≡ passes → t ≡ true
 required true r e = refl
 required false r e = never e
+
+pub told : {R A : Type 0} {x y : R} → _≡_ {A = Outcome R A} (refuses x) (refuses y) → x ≡ y
+told e = cc
+
+-- P holds of each refusal; what holds of each refusal of both parts holds of each refusal of the whole
+module _ {R : Type 0} (P : R → Type 0) where
+  abbrev pub Refusals : {A : Type 0} → Outcome R A → Type 0
+  Refusals o = (r : R) → o ≡ refuses r → P r
+
+  pub of-gives : {A : Type 0} (a : A) → Refusals (gives a)
+  of-gives a r e = never (sym e)
+
+  pub of-refuses : {A : Type 0} (x : R) → P x → Refusals {A = A} (refuses x)
+  of-refuses x p r e = subst P (told e) p
+
+  pub of-require : (t : Bool) (x : R) → P x → Refusals (require t x)
+  of-require true x p = of-gives tt
+  of-require false x p = of-refuses x p
+
+  pub of-then : {A : Type 0} (a : Outcome R (Unit {0})) (b : Outcome R A) → Refusals a → Refusals b → Refusals (a then b)
+  unfolding _then_
+  of-then (gives _) b f g = g
+  of-then (refuses x) b f g = of-refuses x (f x refl)
+
+  pub on : (t : Bool) (x : R) → P x → {A : Type 0} {b : Outcome R A} → Refusals b → Refusals (require t x then b)
+  on t x p {A} {b} f = of-then (require t x) b (of-require t x p) f
+
+pub weaker : {R A : Type 0} {P Q : R → Type 0} {o : Outcome R A} → ((r : R) → P r → Q r) → Refusals P o → Refusals Q o
+weaker h f r e = h r (f r e)
+
+-- n is one of the numbers from a to b
+abbrev pub Between : ℕ → ℕ → ℕ → Type 0
+Between a b n = (a ≤ n) × (n ≤ b)
+
+pub wider : {a b c d n : ℕ} → c ≤ a → b ≤ d → Between a b n → Between c d n
+wider h l p = (omega (arith, h, p .0), omega (arith, l, p .1))

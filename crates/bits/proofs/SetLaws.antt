@@ -14,6 +14,7 @@ use lib.Dec.{eqb, ltb}
 use borrow.Author.Tests.{eq-eqb, ne-eqb, eqb-true, ltb-true, ltb-false}
 use Rattle.bits.specs.Fields.{choose}
 use Rattle.bits.specs.Sets.{Has, has, minus, lowest-from, lowest}
+use Rattle.bits.proofs.Every.{clash}
 
 bit : ℕ → ℕ → ℕ
 bit s r = s / 2 ^ r % 2
@@ -199,12 +200,9 @@ no-bit : (s r : ℕ) → (¬ Has s r) → bit s r ≡ 0
 unfolding Has bit
 no-bit s r n = omega (arith, bit-two s r, n)
 
-clash : {x : Bool} → x ≡ true → x ≡ false → ⊥
-clash a b = let z : _≡_ {A = ℕ} 0 1 = cc in omega arith
-
 module _ (s : ℕ) (h : s < 2 ^ 64) where
   below-lowest : (r : ℕ) → r < lowest s → ¬ Has s r
-  below-lowest r l k = clash (has-true s r k) (lowest-below (has s) 64 0 r (omega arith) l)
+  below-lowest r l k = clash (sym (has-true s r k) ∙ lowest-below (has s) 64 0 r (omega arith) l)
 
   -- a set that has no lowest member is empty
   pub lowest-empty : lowest s ≡ 64 → s ≡ 0
@@ -245,6 +243,17 @@ has-and a b r = (
     bit-and a b (suc r) =
         let h : bitAnd a b / 2 ≡ bitAnd (a / 2) (b / 2) = omega (arith, and-step a b) in
         rw (bit-suc (bitAnd a b) r, bit-suc a r, bit-suc b r) (ap (λ (x : ℕ). bit x r) h ∙ bit-and (a / 2) (b / 2) r)
+
+-- the same of the tests
+pub has-both : (a b r : ℕ) → has (bitAnd a b) r ≡ has a r && has b r
+has-both a b r =
+    ⊎-elim
+    (λ x. ⊎-elim
+    (λ y. has-true _ r (has-and a b r .1 (x, y)) ∙ rw (has-true a r x, has-true b r y))
+    (λ n. has-false _ r (λ z. n (has-and a b r .0 z .1)) ∙ rw (has-true a r x, has-false b r n))
+    (has-dec b r))
+    (λ n. has-false _ r (λ z. n (has-and a b r .0 z .0)) ∙ rw (has-false a r n))
+    (has-dec a r)
 
 -- a set inside another is no larger a number
 pub subset-le : (a b : ℕ) → ((r : ℕ) → Has a r → Has b r) → a ≤ b

@@ -13,9 +13,7 @@ use mir.ValLaws.{toZ-ofZ, toZ-pos}
 use borrow.Author.Tests.{ltb-true, ltb-false, lt-ltb, le-ltb, eq-eqb, eqb-true, eqb-false}
 use Rattle.bits.specs.Fields.{choose}
 use Rattle.bits.specs.Signed.{unsigned, signed}
-
-never : {A : Type 0} → false ≡ true → A
-never p = let z : _≡_ {A = ℕ} 0 1 = cc in absurd (omega arith)
+use Rattle.bits.proofs.Every.{clash}
 
 -- y is z as the machine reads it back from its bits
 abbrev back : ℤ → ℤ
@@ -24,17 +22,17 @@ back z = toZ w32 (ofZ w32 z)
 module _ (h : ℕ) (few : h ≤ 2147483648) where
   pub above : (y : ℤ) → leZ (pos 0) y ≡ true → ltZ y (pos h) ≡ true → T (nonNeg y) × Fits w64 (natAbs y)
   above (pos n) p q = (tt, record { fits = omega (arith, ltb-true n h q) })
-  above (negsuc n) p q = never p
+  above (negsuc n) p q = clash (sym p)
 
   pub above-number : (y : ℤ) → leZ (pos 0) y ≡ true → ltZ y (pos h) ≡ true → natAbs y ≡ unsigned h y
   unfolding unsigned
   above-number (pos n) p q = rw q
-  above-number (negsuc n) p q = never p
+  above-number (negsuc n) p q = clash (sym p)
 
   pub above-range : (y : ℤ) → leZ (pos 0) y ≡ true → ltZ y (pos h) ≡ false → (h + h) ≡ unsigned h y
   unfolding unsigned
   above-range (pos n) p q = rw q
-  above-range (negsuc n) p q = never p
+  above-range (negsuc n) p q = clash (sym p)
 
   minus-one : (n : ℕ) → negsuc 0 -ℤ negsuc n ≡ pos n
   minus-one n = rw (le-ltb (suc n) 1 (omega arith)) (ap pos (omega arith))
@@ -47,12 +45,12 @@ module _ (h : ℕ) (few : h ≤ 2147483648) where
 
   pub below : (y : ℤ) → leZ (pos 0) y ≡ false → ltZ (negsuc h) y ≡ true → Below y
   unfolding unsigned
-  below (pos n) p q = never (sym p ∙ leb·zero n)
+  below (pos n) p q = clash (sym (leb·zero n) ∙ p)
   below (negsuc n) p q = record { n = n; lt = ltb-true n h q; flipped = minus-one n; number = rw q }
 
   pub below-range : (y : ℤ) → leZ (pos 0) y ≡ false → ltZ (negsuc h) y ≡ false → (h + h) ≡ unsigned h y
   unfolding unsigned
-  below-range (pos n) p q = never (sym p ∙ leb·zero n)
+  below-range (pos n) p q = clash (sym (leb·zero n) ∙ p)
   below-range (negsuc n) p q = rw q
 
   -- -1 - y, read back from its bits

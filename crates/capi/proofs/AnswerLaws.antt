@@ -7,11 +7,11 @@ use lib.ListN.{length, getD}
 use borrow.Author.Tests.{eq-eqb, ne-eqb, lt-ltb, le-ltb}
 use Rattle.bits.specs.Outcomes.{Outcome, gives, refuses, passes, _then_}
 use Rattle.rows.specs.Rows.{row-count}
-use Rattle.isa.specs.Writer.{write, stored}
-use Rattle.isa.specs.declared.instruction.Instruction.{Instruction}
-use Rattle.isa.specs.declared.answer.Refusal.{Refusal}
+use Rattle.writer.specs.Writer.{write, stored}
+use Rattle.record.specs.declared.instruction.Instruction.{Instruction}
+use Rattle.record.specs.declared.answer.Refusal.{Refusal}
 use Rattle.capi.specs.Codes.{code, outcome-code}
-use Rattle.capi.specs.Form.{form-of, form-after, instruction-in, padded, write-form, word-after}
+use Rattle.capi.specs.Form.{form-of, form-after, instruction-of-form, padded, write-form, word-after}
 
 module _ (f : List ℕ) {o : Outcome Refusal Instruction} where
   pub made : {i : Instruction} {r : List ℕ} → gives i ≡ o → r ≡ form-of i → (0 ≡ outcome-code o) × (r ≡ form-after o f)
@@ -38,17 +38,17 @@ module _ (f bs : List ℕ) where
       unfolding write-form word-after _then_
       not-0 p = (rw (eq-eqb (length bs) 8 l, lt-ltb (getD f 0 0) row-count m, p), rw (eq-eqb (length bs) 8 l, lt-ltb (getD f 0 0) row-count m, p))
 
-      pub through : padded f ≡ false → write-form f bs ≡ write (instruction-in f) bs
+      pub through : padded f ≡ false → write-form f bs ≡ write (instruction-of-form f) bs
       unfolding write-form _then_
       through p = rw (eq-eqb (length bs) 8 l, lt-ltb (getD f 0 0) row-count m, p)
 
-      pub kept : padded f ≡ false → word-after f bs ≡ stored (instruction-in f) bs
+      pub kept : padded f ≡ false → word-after f bs ≡ stored (instruction-of-form f) bs
       unfolding word-after stored
       kept p = rw (through p)
 
-      pub done : padded f ≡ false → passes ≡ write (instruction-in f) bs → {last : List ℕ} → last ≡ stored (instruction-in f) bs → Answered 0 last
+      pub done : padded f ≡ false → passes ≡ write (instruction-of-form f) bs → {last : List ℕ} → last ≡ stored (instruction-of-form f) bs → Answered 0 last
       done p e k = (ap outcome-code (e ∙ sym (through p)), k ∙ sym (kept p))
 
-      pub unwritten : padded f ≡ false → {g : Refusal} → refuses g ≡ write (instruction-in f) bs → {n : ℕ} → n ≡ code g
-          → {last : List ℕ} → last ≡ stored (instruction-in f) bs → Answered n last
+      pub unwritten : padded f ≡ false → {g : Refusal} → refuses g ≡ write (instruction-of-form f) bs → {n : ℕ} → n ≡ code g
+          → {last : List ℕ} → last ≡ stored (instruction-of-form f) bs → Answered n last
       unwritten p e q k = (q ∙ ap outcome-code (e ∙ sym (through p)), k ∙ sym (kept p))

@@ -1,7 +1,7 @@
 -- Answers as single numbers.
 use Prim.Native.Nat.{ℕ, _+_, _*_, _^_}
 use Rattle.bits.specs.Outcomes.{Outcome, gives, refuses}
-use Rattle.isa.specs.declared.answer.Refusal.{Refusal}
+use Rattle.record.specs.declared.answer.Refusal.{Refusal}
 use Rattle.verifier.specs.declared.verdict.Finding.{Finding}
 use Rattle.verifier.specs.Verdict.{Judgement}
 

@@ -3,18 +3,19 @@
 -- first, and 28 to 31 are padding. Padding is 0.
 use mathlib.Core.Bool.{Bool, not}
 use mathlib.Core.List.{List, [], _∷_, _++_}
-use Prim.Native.Nat.{ℕ, _+_, _*_}
+use Prim.Native.Nat.{ℕ, zero, suc, _+_, _*_}
 use lib.Dec.{eqb, ltb}
 use lib.ListN.{length, getD}
 use Rattle.bits.specs.Bytes.{little-bytes}
 use Rattle.bits.specs.Signed.{unsigned, signed}
 use Rattle.bits.specs.Outcomes.{Outcome, gives, refuses, require, _then_}
 use Rattle.rows.specs.Rows.{row-count}
-use Rattle.isa.specs.Answers.{refusal}
-use Rattle.isa.specs.Writer.{fields, write, kept-or}
-use Rattle.isa.specs.Instructions.{word-of}
-use Rattle.isa.specs.declared.instruction.Instruction.{Instruction}
-use Rattle.isa.specs.declared.answer.Refusal.{Refusal}
+use Rattle.record.specs.Answers.{refusal}
+use Rattle.writer.specs.Writer.{heads, write, kept-or}
+use Rattle.record.specs.Lists.{source-list, sources-of, modifier-list, modifiers-of}
+use Rattle.record.specs.Instructions.{word-of}
+use Rattle.record.specs.declared.instruction.Instruction.{Instruction}
+use Rattle.record.specs.declared.answer.Refusal.{Refusal}
 
 -- half the numbers of 32 bits
 abbrev pub half : ℕ
@@ -22,35 +23,30 @@ half = 2147483648
 
 -- the form of an instruction
 unfoldable pub form-of : Instruction → List ℕ
-form-of i = fields i ++ (0 ∷ []) ++ little-bytes 4 (unsigned half (i .offset)) ++ (0 ∷ 0 ∷ 0 ∷ 0 ∷ [])
+form-of i =
+    heads i
+    ++ source-list (i .sources)
+    ++ modifier-list (i .modifiers)
+    ++ (0 ∷ [])
+    ++ little-bytes 4 (unsigned half (i .offset))
+    ++ (0 ∷ 0 ∷ 0 ∷ 0 ∷ [])
+
+-- n bytes of a form from byte k on
+abbrev pub pick : ℕ → ℕ → List ℕ → List ℕ
+pick zero k f = []
+pick (suc n) k f = getD f k 0 ∷ pick n (suc k) f
 
 -- the instruction of a form
-abbrev pub instruction-in : List ℕ → Instruction
-instruction-in f =
+abbrev pub instruction-of-form : List ℕ → Instruction
+instruction-of-form f =
     record {
       row = getD f 0 0;
       page = getD f 1 0;
       flow = getD f 2 0;
       register = getD f 3 0;
       «half_mask» = getD f 4 0;
-      sources = record { s0 = getD f 5 0; s1 = getD f 6 0; s2 = getD f 7 0; s3 = getD f 8 0 };
-      modifiers =
-          record {
-            m8 = getD f 9 0;
-            m10 = getD f 10 0;
-            m11 = getD f 11 0;
-            m24 = getD f 12 0;
-            m26 = getD f 13 0;
-            m28 = getD f 14 0;
-            m30 = getD f 15 0;
-            m32 = getD f 16 0;
-            m34 = getD f 17 0;
-            m35 = getD f 18 0;
-            m36 = getD f 19 0;
-            m37 = getD f 20 0;
-            m38 = getD f 21 0;
-            m39 = getD f 22 0;
-          };
+      sources = sources-of (pick 4 5 f);
+      modifiers = modifiers-of (pick 14 9 f);
       offset = signed half (getD f 24 0 + 256 * (getD f 25 0 + 256 * (getD f 26 0 + 256 * getD f 27 0)));
     }
 
@@ -70,8 +66,8 @@ write-form f bs =
     require (eqb (length bs) 8) (refusal 8 0)
     then require (ltb (getD f 0 0) row-count) (refusal 2 0)
     then require (not (padded f)) (refusal 9 0)
-    then write (instruction-in f) bs
+    then write (instruction-of-form f) bs
 
 -- the buffer afterwards: the word's bytes, or on a refusal what it held
 unfoldable pub word-after : List ℕ → List ℕ → List ℕ
-word-after f bs = kept-or (write-form f bs) (little-bytes 8 (word-of (instruction-in f))) bs
+word-after f bs = kept-or (write-form f bs) (little-bytes 8 (word-of (instruction-of-form f))) bs

@@ -6,11 +6,11 @@ use mathlib.Core.Logic.{_↔_}
 use Prim.Native.Nat.{ℕ, _<_}
 use lib.ListN.{length, getD}
 use Rattle.bits.specs.Outcomes.{Outcome, gives, passes}
-use Rattle.isa.specs.declared.instruction.Instruction.{Instruction}
-use Rattle.isa.specs.declared.answer.Refusal.{Refusal}
-use Rattle.isa.specs.Demand2.{Given}
-use Rattle.isa.specs.Reader.{read}
-use Rattle.isa.specs.Defaults.{fresh}
+use Rattle.record.specs.declared.instruction.Instruction.{Instruction}
+use Rattle.record.specs.declared.answer.Refusal.{Refusal}
+use Rattle.codec.specs.Demand2.{Given}
+use Rattle.reader.specs.Reader.{read}
+use Rattle.record.specs.Defaults.{fresh}
 use Rattle.verifier.specs.Verdict.{verdict-of}
 use Rattle.capi.specs.Codes.{outcome-code, verdict-code}
 use Rattle.capi.specs.Form.{form-of, write-form, word-after}

@@ -2,11 +2,12 @@
 ghost use mathlib.Core.Path.{_≡_};
 ghost use Prim.Native.Nat.{_<_};
 ghost use Rattle.bits.specs.Signed.{unsigned, signed};
-ghost use Rattle.capi.specs.Form.{form-of, instruction-in, padded};
+ghost use Rattle.capi.specs.Form.{form-of, instruction-of-form, padded};
 use bits::bytes::wide;
-use isa::instruction::Instruction;
-use isa::instruction::Modifiers;
-use isa::instruction::Sources;
+use record::instruction::Instruction;
+use record::instruction::MODIFIERS;
+use record::instruction::Modifiers;
+use record::instruction::Sources;
 
 // The 32 bits of an offset.
 fn offset_bits(z: i32) -> u64
@@ -37,41 +38,23 @@ pub(crate) fn form_of(i: Instruction) -> [u8; 32]
 {
     let n = offset_bits(i.offset);
     let s = i.sources;
-    let m = i.modifiers;
-    [
-        i.row,
-        i.page,
-        i.flow,
-        i.register,
-        i.half_mask,
-        s.s0,
-        s.s1,
-        s.s2,
-        s.s3,
-        m.m8,
-        m.m10,
-        m.m11,
-        m.m24,
-        m.m26,
-        m.m28,
-        m.m30,
-        m.m32,
-        m.m34,
-        m.m35,
-        m.m36,
-        m.m37,
-        m.m38,
-        m.m39,
-        0,
-        (n % 256) as u8,
-        (n / 256 % 256) as u8,
-        (n / 65536 % 256) as u8,
-        (n / 16777216 % 256) as u8,
-        0,
-        0,
-        0,
-        0,
-    ]
+    let m = i.modifiers.list();
+    let mut f = [0u8; 32];
+    f[0] = i.row;
+    f[1] = i.page;
+    f[2] = i.flow;
+    f[3] = i.register;
+    f[4] = i.half_mask;
+    f[5] = s.s0;
+    f[6] = s.s1;
+    f[7] = s.s2;
+    f[8] = s.s3;
+    f[24] = (n % 256) as u8;
+    f[25] = (n / 256 % 256) as u8;
+    f[26] = (n / 65536 % 256) as u8;
+    f[27] = (n / 16777216 % 256) as u8;
+    bytes::copy(&m, &mut f[9..23]);
+    f
 }
 
 // Whether a padding byte of a form isn't 0.
@@ -81,32 +64,12 @@ pub(crate) fn padded(f: [u8; 32]) -> bool
     wide(f[23]) + wide(f[28]) + wide(f[29]) + wide(f[30]) + wide(f[31]) != 0
 }
 
-fn modifiers_in(f: [u8; 32]) -> Modifiers
-    ensures { λ m. ⌜ m ≡ instruction-in f .modifiers ⌝ }
-{
-    Modifiers {
-        m8: f[9],
-        m10: f[10],
-        m11: f[11],
-        m24: f[12],
-        m26: f[13],
-        m28: f[14],
-        m30: f[15],
-        m32: f[16],
-        m34: f[17],
-        m35: f[18],
-        m36: f[19],
-        m37: f[20],
-        m38: f[21],
-        m39: f[22],
-    }
-}
-
 // The instruction of a form.
-pub(crate) fn instruction_in(f: [u8; 32]) -> Instruction
-    ensures { λ i. ⌜ i ≡ instruction-in f ⌝ }
+pub(crate) fn instruction_of_form(f: [u8; 32]) -> Instruction
+    ensures { λ i. ⌜ i ≡ instruction-of-form f ⌝ }
 {
-    let modifiers = modifiers_in(f);
+    let mut modifiers = [0u8; MODIFIERS];
+    bytes::copy(&f[9..23], &mut modifiers);
     let n = wide(f[24]) + 256 * (wide(f[25]) + 256 * (wide(f[26]) + 256 * wide(f[27])));
     Instruction {
         row: f[0],
@@ -120,7 +83,7 @@ pub(crate) fn instruction_in(f: [u8; 32]) -> Instruction
             s2: f[7],
             s3: f[8],
         },
-        modifiers,
+        modifiers: Modifiers::of(modifiers),
         offset: offset_in(n),
     }
 }

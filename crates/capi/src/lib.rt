@@ -1,25 +1,25 @@
 // The exported functions for C and Rust: numbers, byte slices and fixed arrays only.
 ghost use mathlib.Core.Path.{_≡_};
 ghost use Prim.Native.Nat.{_<_};
-ghost use Rattle.isa.specs.Reader.{read};
-ghost use Rattle.isa.specs.Defaults.{fresh};
+ghost use Rattle.reader.specs.Reader.{read};
+ghost use Rattle.record.specs.Defaults.{fresh};
 ghost use Rattle.verifier.specs.Verdict.{verdict-of};
 ghost use Rattle.capi.specs.Codes.{code, packed, outcome-code, verdict-code};
 ghost use Rattle.capi.specs.Form.{form-after, write-form, word-after};
 use crate::form::form_of;
-use crate::form::instruction_in;
+use crate::form::instruction_of_form;
 use crate::form::padded;
 use bits::bytes::wide;
-use isa::answer::Fresh;
-use isa::answer::Reading;
-use isa::answer::Refusal;
-use isa::answer::Written;
-use isa::instruction::Instruction;
-use isa::reader::read_word;
-use isa::writer::write_word;
+use codec::read_word;
+use codec::write_word;
+use reader::answer::Reading;
+use record::answer::Fresh;
+use record::answer::Refusal;
+use record::instruction::Instruction;
 use verifier::verdict::Finding;
 use verifier::verdict::Verdict;
 use verifier::verify;
+use writer::answer::Written;
 
 pub mod form;
 
@@ -83,7 +83,7 @@ pub extern "C" fn vsp_write(form: &[u8; 32], word: &mut [u8]) -> u32
     if padded(f) {
         return 9;
     }
-    let w = write_word(instruction_in(f), word);
+    let w = write_word(instruction_of_form(f), word);
     match w {
         Written::Done => 0,
         Written::Refused(r) => refusal_code(r),

@@ -6,14 +6,17 @@ use native.Mathlib.Omega.{arith}
 use lib.Dec.{T, lit<}
 use lib.Pow.{areBytes}
 use Rattle.bits.specs.Outcomes.{Outcome, gives, refuses, passes, _then_}
-use Rattle.bits.proofs.OutcomeLaws.{never, then-refused}
-use Rattle.isa.specs.declared.instruction.Instruction.{Instruction}
-use Rattle.isa.specs.declared.answer.Refusal.{Refusal}
-use Rattle.isa.specs.Reader.{read}
+use Rattle.bits.proofs.OutcomeLaws.{never, then-refused, told, Refusals, Between}
+use Rattle.record.specs.declared.instruction.Instruction.{Instruction}
+use Rattle.record.specs.declared.answer.Refusal.{Refusal}
+use Rattle.record.proofs.NumberedLaws.{Numbered}
+use Rattle.reader.specs.Reader.{read}
+use Rattle.reader.proofs.NumberedLaws.{read-numbers}
 use Rattle.container.specs.declared.header.Header.{Header}
 use Rattle.container.specs.Container.{most-instructions, count-of, words-of, eight}
 use Rattle.container.specs.Opening.{open-outcome, Opens}
 use Rattle.container.proofs.OpeningLaws.{sized}
+use Rattle.container.proofs.NumberedLaws.{open-numbers}
 use Rattle.verifier.specs.declared.verdict.Finding.{Finding}
 use Rattle.verifier.specs.Program.{Program, program-of, WellFormed}
 use Rattle.verifier.specs.Verdict.{Judgement, first, judge-opening, judge-reading, judge-word, judge-program, verdict-of}
@@ -23,7 +26,7 @@ use Rattle.verifier.proofs.ReasonLaws.{reason}
 use Rattle.verifier.proofs.Demand3.{opening-of, word-of}
 use Rattle.listing.specs.Listing.{all-read, listing}
 use Rattle.listing.specs.Asked.{Shown, ListedAsAsked}
-use Rattle.listing.proofs.NumberLaws.{Refusals, told, Early, EarlyRefusal, opening-early, read-early, opens, reads}
+use Rattle.listing.proofs.NumberLaws.{opens, reads}
 use Rattle.listing.proofs.ListingLaws.{goes-on, listing-read, listing-unread}
 
 -- what passes is well-formed, and what is well-formed passes
@@ -42,13 +45,13 @@ wrong-shown p h (annotation-lacks i r l m) = record { number = lit< tt; index = 
 wrong-shown p h (runs-off i z l q o) = record { number = lit< tt; index = omega arith; register = lit< tt }
 wrong-shown p h (successor-lacks i j r l q b m) = record { number = lit< tt; index = omega arith; register = omega (arith, m .is) }
 
-unopened-shown : (o : Outcome ℕ Header) → Refusals Early o → {f : Finding} → judge-opening o ≡ refuses f → Shown f
+unopened-shown : (o : Outcome ℕ Header) → Refusals (Between 10 13) o → {f : Finding} → judge-opening o ≡ refuses f → Shown f
 unopened-shown (gives h) p e = never (sym e)
-unopened-shown (refuses n) p e = subst Shown (told Shown e) (record { number = omega (arith, p n refl); index = lit< tt; register = lit< tt })
+unopened-shown (refuses n) p e = subst Shown (told e) (record { number = omega (arith, p n refl .1); index = lit< tt; register = lit< tt })
 
-unread-shown : (i : ℕ) → i < 10000 → (o : Outcome Refusal Instruction) → Refusals EarlyRefusal o → {f : Finding} → judge-reading i o ≡ refuses f → Shown f
+unread-shown : (i : ℕ) → i < 10000 → (o : Outcome Refusal Instruction) → Refusals (Numbered 1 7) o → {f : Finding} → judge-reading i o ≡ refuses f → Shown f
 unread-shown i h (gives x) p e = never (sym e)
-unread-shown i h (refuses g) p e = subst Shown (told Shown e) (record { number = omega (arith, p g refl); index = h; register = lit< tt })
+unread-shown i h (refuses g) p e = subst Shown (told e) (record { number = omega (arith, p g refl .1); index = h; register = lit< tt })
 
 module _ (s : List ℕ) where
   few : Opens s → count-of s ≤ most-instructions
@@ -62,12 +65,12 @@ module _ (s : List ℕ) where
       go : (a : Judgement) → judge-opening (open-outcome s) ≡ a → (a then first (judge-word (words-of s)) (count-of s)) ≡ refuses f → Shown f
       go (gives tt) o q =
           let w = first-refused (judge-word (words-of s)) (count-of s) q in
-          unread-shown (w .0) (omega (arith, w .1, few (opening-of s o))) (read (eight (words-of s) (w .0))) (read-early (eight (words-of s) (w .0))) (w .2)
-      go (refuses g) o q = unopened-shown (open-outcome s) (opening-early s) (o ∙ q)
+          unread-shown (w .0) (omega (arith, w .1, few (opening-of s o))) (read (eight (words-of s) (w .0))) (read-numbers (eight (words-of s) (w .0))) (w .2)
+      go (refuses g) o q = unopened-shown (open-outcome s) (open-numbers s) (o ∙ q)
 
   -- and after
   late-shown : all-read s ≡ passes → {f : Finding} → Reason s f → Shown f
-  late-shown all (unopened n o) = unopened-shown (open-outcome s) (opening-early s) (ap judge-opening o)
+  late-shown all (unopened n o) = unopened-shown (open-outcome s) (open-numbers s) (ap judge-opening o)
   late-shown all (unreadable i g l e) = never (sym (ap (judge-reading i) e) ∙ reads s all i l)
   late-shown all (wrong f w) = wrong-shown (program-of s) (few (opening-of s (opens s all))) w
 

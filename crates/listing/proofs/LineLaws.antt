@@ -12,12 +12,12 @@ use lib.Seq.{drop-cons, take-suc, append-snoc, set-at, length-take-le, take-at}
 use Rattle.bits.proofs.Every.{every, at}
 use Rattle.bits.specs.Bytes.{little}
 use Rattle.bits.specs.Outcomes.{Outcome}
-use Rattle.isa.specs.declared.instruction.Instruction.{Instruction}
-use Rattle.isa.specs.declared.answer.Refusal.{Refusal}
-use Rattle.isa.specs.Reader.{read}
+use Rattle.record.specs.declared.instruction.Instruction.{Instruction}
+use Rattle.record.specs.declared.answer.Refusal.{Refusal}
+use Rattle.reader.specs.Reader.{read}
 use Rattle.container.specs.Container.{eight}
 use Rattle.rows.specs.Rows.{Row, rows, row-of, no-row, row-count}
-use Rattle.rows.specs.Names.{ascii, name-of, name-width, padded, name, names as all-names, before-space}
+use Rattle.rows.specs.Names.{ascii, name-of, name-width, filled, name, names as all-names, before-space}
 use Rattle.rows.specs.declared.names.Name.{Name}
 use Rattle.rows.proofs.TableLaws.{in-table}
 use Rattle.rows.proofs.NameLaws.{name-in, name-there, no-name}
@@ -40,16 +40,16 @@ short-name k = go (ltb k row-count) refl
     go true e = leb→le (length (name-of k)) name-width (at short rows no-row all-short k (in-table k (ltb-true k row-count e)))
     go false e = rw (no-name k (ltb-false k row-count e)) (omega arith)
 
-pub length-padded : (k : ℕ) → length (padded (name-of k)) ≡ name-width
-length-padded k = simp (length-append, length-replicate) (omega (arith, short-name k))
+pub length-filled : (k : ℕ) → length (filled (name-of k)) ≡ name-width
+length-filled k = simp (length-append, length-replicate) (omega (arith, short-name k))
 
 -- what stands before the first space is the name
-pub name-length : (k : ℕ) → k < row-count → before-space (padded (name-of k)) ≡ length (name-of k)
+pub name-length : (k : ℕ) → k < row-count → before-space (filled (name-of k)) ≡ length (name-of k)
 unfolding name
 name-length k h = ap (λ (n : Name). n .len) (name-there k h refl refl)
 
 -- byte n of a name, from the table
-pub name-byte : (names : List (List ℕ)) (k n : ℕ) → k < row-count → names ≡ all-names → getD (getD names k []) n 0 ≡ getD (padded (name-of k)) n 0
+pub name-byte : (names : List (List ℕ)) (k n : ℕ) → k < row-count → names ≡ all-names → getD (getD names k []) n 0 ≡ getD (filled (name-of k)) n 0
 name-byte names k n h e = ap (λ (t : List (List ℕ)). getD (getD t k []) n 0) e ∙ ap (λ (x : List ℕ). getD x n 0) (name-in k h)
 
 -- a byte of a text is copied after those that are there
@@ -58,8 +58,8 @@ pub copied : (x out : List ℕ) (n : ℕ) {b : ℕ} {o : List ℕ} → n < lengt
 copied x out n h l e f =
     rw (e, f, drop-cons out n 0 l, set-at (take n x) (getD out n 0) (drop (suc n) out) (getD x n 0) n (length-take-le n x (omega arith)), take-suc x n 0 h, append-snoc (take n x) (getD x n 0) (drop (suc n) out))
 
-pub name-put : (k : ℕ) (before : List ℕ) {after : List ℕ} {n : ℕ} → k < row-count → n ≡ before-space (padded (name-of k))
-    → after ≡ take n (padded (name-of k)) ++ drop n before → Put (name-of k) before after n
+pub name-put : (k : ℕ) (before : List ℕ) {after : List ℕ} {n : ℕ} → k < row-count → n ≡ before-space (filled (name-of k))
+    → after ≡ take n (filled (name-of k)) ++ drop n before → Put (name-of k) before after n
 name-put k before {after} {n} h e f =
     let l : length (name-of k) ≡ n = sym (e ∙ name-length k h) in
     record {

@@ -22,7 +22,7 @@ use Rattle.verifier.specs.Verdict.{Judgement, first, judge-opening, judge-word,
 use Rattle.verifier.proofs.VerdictLaws.{both, then-assoc}
 use Rattle.verifier.proofs.PassLaws.{worded}
 use Rattle.listing.specs.Text.{Put}
-use Rattle.listing.specs.Listing.{lines, verdict-line, all-read, lists, where-read, listing, longest-line, longest-verdict, room, Written}
+use Rattle.listing.specs.Listing.{lines, verdict-line, all-read, lists, where-read, listing, longest-line, longest-verdict, listing-room, Listed}
 use Rattle.listing.proofs.TextLaws.{put-next, same-text}
 use Rattle.listing.proofs.NumberLaws.{early, late, opens}
 
@@ -99,14 +99,14 @@ module _ (s : List ℕ) {n : ℕ} (all : all-read s ≡ passes) (counts : n ≡ 
 
 -- what is written, by the buffer's room
 module _ (s before : List ℕ) {n : ℕ} (counts : n ≡ open-count s) where
-  pub small : length before < longest-line * n + longest-verdict → Written s before before 0
-  unfolding room
+  pub small : length before < longest-line * n + longest-verdict → Listed s before before 0
+  unfolding listing-room
   small h =
-      let l : length before < room s = subst (λ (m : ℕ). length before < longest-line * m + longest-verdict) counts h in
-      same-text (sym (ap (λ (b : Bool). choose b (listing s) []) (lt-leb (room s) (length before) l))) (record { counts = refl; fills = refl })
+      let l : length before < listing-room s = subst (λ (m : ℕ). length before < longest-line * m + longest-verdict) counts h in
+      same-text (sym (ap (λ (b : Bool). choose b (listing s) []) (lt-leb (listing-room s) (length before) l))) (record { counts = refl; fills = refl })
 
-  pub large : longest-line * n + longest-verdict ≤ length before → {after : List ℕ} {r : ℕ} → Put (listing s) before after r → Written s before after r
-  unfolding room
+  pub large : longest-line * n + longest-verdict ≤ length before → {after : List ℕ} {r : ℕ} → Put (listing s) before after r → Listed s before after r
+  unfolding listing-room
   large h p =
-      let l : room s ≤ length before = subst (λ (m : ℕ). longest-line * m + longest-verdict ≤ length before) counts h in
-      same-text (sym (ap (λ (b : Bool). choose b (listing s) []) (le-leb (room s) (length before) l))) p
+      let l : listing-room s ≤ length before = subst (λ (m : ℕ). longest-line * m + longest-verdict ≤ length before) counts h in
+      same-text (sym (ap (λ (b : Bool). choose b (listing s) []) (le-leb (listing-room s) (length before) l))) p

@@ -7,10 +7,10 @@ use lib.ListN.{length}
 use Rattle.bits.specs.Fields.{choose}
 use Rattle.bits.specs.Bytes.{little}
 use Rattle.bits.specs.Outcomes.{Outcome, gives, refuses, _then_}
-use Rattle.isa.specs.declared.instruction.Instruction.{Instruction}
-use Rattle.isa.specs.declared.answer.Refusal.{Refusal}
+use Rattle.record.specs.declared.instruction.Instruction.{Instruction}
+use Rattle.record.specs.declared.answer.Refusal.{Refusal}
 use Rattle.rows.specs.Names.{ascii, name-of, name-width}
-use Rattle.isa.specs.Reader.{read}
+use Rattle.reader.specs.Reader.{read}
 use Rattle.container.specs.Container.{count-of, words-of, eight}
 use Rattle.container.specs.Opening.{open-outcome}
 use Rattle.container.specs.Words.{open-count}
@@ -69,9 +69,9 @@ abbrev pub longest-verdict : ℕ
 longest-verdict = 7 + 1 + 2 + 1 + 4 + 1 + 2 + 1
 
 -- room for any listing of as many instructions
-unfoldable pub room : List ℕ → ℕ
-room s = longest-line * open-count s + longest-verdict
+unfoldable pub listing-room : List ℕ → ℕ
+listing-room s = longest-line * open-count s + longest-verdict
 
 -- writing a listing into a buffer: the listing is put at its front; where the buffer has less room than that, nothing is
-abbrev pub Written : List ℕ → List ℕ → List ℕ → ℕ → Type 0
-Written s before after r = Put (choose (leb (room s) (length before)) (listing s) []) before after r
+abbrev pub Listed : List ℕ → List ℕ → List ℕ → ℕ → Type 0
+Listed s before after r = Put (choose (leb (listing-room s) (length before)) (listing s) []) before after r

@@ -13,7 +13,7 @@ ghost use Rattle.bits.specs.Outcomes.{passes};
 ghost use Rattle.container.specs.Container.{count-of, words-of};
 ghost use Rattle.container.specs.Words.{open-count};
 ghost use Rattle.listing.specs.Text.{Put};
-ghost use Rattle.listing.specs.Listing.{longest-line, lines, all-read, Written};
+ghost use Rattle.listing.specs.Listing.{longest-line, lines, all-read, Listed};
 
 mod line;
 mod text;
@@ -49,7 +49,7 @@ fn put_words(bytes: &[u8], n: usize, out: &mut [u8]) -> usize
 // Writes the listing of a container at the front of a buffer and answers how many bytes it has. A buffer with less room than 41 bytes
 // an instruction and 19 for the verdict is left alone, and the answer is 0.
 pub fn write(bytes: &[u8], out: &mut [u8]) -> usize
-    ensures { λ r. ⌜ Written (now (bytes .entry)) (now (out .entry)) (now (out .exit)) r ⌝ }
+    ensures { λ r. ⌜ Listed (now (bytes .entry)) (now (out .entry)) (now (out .exit)) r ⌝ }
 {
     let n = count(bytes);
     if out.len() < line::LONGEST * n + verdict::LONGEST {

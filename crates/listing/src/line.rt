@@ -4,15 +4,15 @@ use crate::text::put_digits;
 use crate::text::put_spaced;
 use bits::bytes::load64;
 use container::layout::WORD_LENGTH;
-use isa::answer::Reading;
+use reader::answer::Reading;
+use record::instruction::Instruction;
 use rows::names::WIDTH;
-use rows::table::ROWS;
 use verifier::program::reading_at;
 ghost use mathlib.Core.Path.{_≡_};
 ghost use mathlib.Core.List.{_∷_};
 ghost use Prim.Native.Nat.{_+_, _*_, _<_, _≤_};
 ghost use lib.ListN.{length};
-ghost use Rattle.isa.specs.Answers.{reading};
+ghost use Rattle.reader.specs.Answers.{reading};
 ghost use Rattle.rows.specs.Names.{name-of, name-width, names as all-names};
 ghost use Rattle.verifier.specs.Program.{Worded};
 ghost use Rattle.listing.specs.Text.{space, Put};
@@ -21,14 +21,14 @@ ghost use Rattle.listing.specs.Listing.{name-in, line, lines, longest-li
 // The most bytes that a line has.
 pub(crate) const LONGEST: usize = 4 + 1 + 16 + 1 + WIDTH + 1;
 
-type Names = [[u8; WIDTH]; ROWS];
+type Names = [[u8; WIDTH]; Instruction::ROWS];
 
 // The name of a row; nothing where there is no such row.
 fn put_name(names: &Names, row: usize, out: &mut [u8]) -> usize
     requires { ⌜ (now names ≡ all-names) × (name-width ≤ length (now out)) ⌝ }
     ensures { λ r. ⌜ Put (name-of row) (now (out .entry)) (now (out .exit)) r × (r ≤ name-width) ⌝ }
 {
-    if ROWS <= row {
+    if Instruction::ROWS <= row {
         return 0;
     }
     let mut n = 0;

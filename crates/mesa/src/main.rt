@@ -3,9 +3,9 @@ ghost use mathlib.Core.Path.{_≡_};
 ghost use Prim.Native.Nat.{_+_, _≤_};
 ghost use lib.ListN.{length};
 use bits::bytes::load64;
-use isa::answer::Reading;
-use isa::answer::Refusal;
-use isa::reader::read_word;
+use codec::read_word;
+use reader::answer::Reading;
+use record::answer::Refusal;
 
 fn text(s: &[u8]) {
     io::write_all(libc::STDOUT_FILENO, s);

@@ -10,7 +10,7 @@ use lib.Seq.{drop-cons, drop-length}
 use borrow.Author.Tests.{eq-eqb, ne-eqb}
 use Rattle.bits.proofs.Every.{every, at}
 use Rattle.rows.specs.Rows.{Row, rows, row-of, no-row, row-count}
-use Rattle.rows.specs.Names.{ascii, name-of, padded, name, names, before-space}
+use Rattle.rows.specs.Names.{ascii, name-of, filled, name, names, before-space}
 use Rattle.rows.proofs.TableLaws.{in-table, count-rows, getD-map-in}
 
 -- the count up to a space, byte by byte
@@ -29,20 +29,20 @@ space-end s i e = rw (← e, drop-length s)
 
 -- a name has no space in it
 test : ℕ → Row → Bool
-test k r = eqb (before-space (padded (ascii (r .name)))) (length (ascii (r .name)))
+test k r = eqb (before-space (filled (ascii (r .name)))) (length (ascii (r .name)))
 
 all-names : T (every test 0 rows)
 unfolding test before-space ascii rows
 all-names = tt
 
-pub name-in : (k : ℕ) → k < row-count → getD names k [] ≡ padded (name-of k)
+pub name-in : (k : ℕ) → k < row-count → getD names k [] ≡ filled (name-of k)
 unfolding names
-name-in k h = getD-map-in (λ (r : Row). padded (ascii (r .name))) rows k no-row [] (in-table k h)
+name-in k h = getD-map-in (λ (r : Row). filled (ascii (r .name))) rows k no-row [] (in-table k h)
 
-pub name-there : (k : ℕ) {s : List ℕ} {n : ℕ} → k < row-count → s ≡ padded (name-of k) → n ≡ before-space s → record { bytes = s; len = n } ≡ name k
+pub name-there : (k : ℕ) {s : List ℕ} {n : ℕ} → k < row-count → s ≡ filled (name-of k) → n ≡ before-space s → record { bytes = s; len = n } ≡ name k
 unfolding name test
 name-there k {s} {n} h e q =
-    let l = eqb→eq (before-space (padded (name-of k))) (length (name-of k)) (at test rows no-row all-names k (in-table k h)) in
+    let l = eqb→eq (before-space (filled (name-of k))) (length (name-of k)) (at test rows no-row all-names k (in-table k h)) in
     λ j. record { bytes = e j; len = (q ∙ ap before-space e ∙ l) j }
 
 pub no-name : (k : ℕ) → row-count ≤ k → row-of k ≡ no-row

@@ -7,25 +7,26 @@ use Prim.Native.Nat.{ℕ, zero, suc, _<_, _≤_}
 use native.Mathlib.Nat.{not-suc-le-zero, le-of-suc-le-suc}
 use native.Mathlib.Omega.{arith}
 use lib.Dec.{T, eqb, ltb, leb, ltb→lt, leb→le, eqb→eq}
-use lib.ListN.{length, getD, List·getD-map}
+use lib.ListN.{length, getD}
 use borrow.Author.Tests.{eq-eqb, ne-eqb, eqb-true, ltb-true, ltb-false}
 use Rattle.bits.specs.Fields.{bits, Slot, apart}
-use Rattle.bits.proofs.Every.{every, at, and-l, and-r}
+use Rattle.bits.proofs.Every.{every, at, and-l, and-r, both}
 use Rattle.bits.proofs.FieldLaws.{Apart, apart-rule}
 use Rattle.rows.specs.Rows.{Row, rows, row-of, no-row, row-count}
-use Rattle.rows.specs.Layout.{Field, layout, modifier-at, slots, slot-count, slot-of, field-of, width-of, low-of, no-field, fits, at-offset, at-opcode}
-use Rattle.rows.specs.Kinds.{width, about}
-use Rattle.rows.proofs.TableLaws.{in-table, layout-length}
+use Rattle.rows.specs.Layout.{Place, flow-place, places, kind-at, modifier-at, slots, fits}
+use Rattle.rows.specs.Kinds.{width}
+use Rattle.rows.proofs.TableLaws.{in-table}
+use Rattle.rows.proofs.PlaceLaws.{placed, index, index-lt, at-index}
 
--- a test of each field of each row, carried to field i of row k
-module _ (test : ℕ → Field → Bool) where
-  abbrev pub on-fields : ℕ → Row → Bool
-  on-fields k r = every test 0 (layout r)
+-- a test of each place of each row, carried to place i of row k
+module _ (test : Row → Place → Bool) where
+  abbrev pub on-places : ℕ → Row → Bool
+  on-places k r = every (λ (i : ℕ) (p : Place). test r p) 0 places
 
-  pub at-field : T (every on-fields 0 rows) → (k i : ℕ) → k < row-count → i < slot-count → T (test i (field-of k i))
-  at-field t k i hk hi =
-      at test (layout (row-of k)) no-field (at on-fields rows no-row t k (in-table k hk)) i
-      (subst (λ (n : ℕ). i < n) (sym (layout-length (row-of k))) hi)
+  pub at-place : T (every on-places 0 rows) → (k : ℕ) → k < row-count → (p : Place) → T (placed p) → T (test (row-of k) p)
+  at-place t k hk p hp =
+      subst (λ (q : Place). T (test (row-of k) q)) (at-index p hp)
+      (at (λ (i : ℕ) (q : Place). test (row-of k) q) places flow-place (at on-places rows no-row t k (in-table k hk)) (index p) (index-lt p hp))
 
 -- ---- the fields of a row's word stand apart
 
@@ -33,7 +34,7 @@ apart-test : ℕ → Row → Bool
 apart-test k r = apart 0 (slots r)
 
 all-apart : T (every apart-test 0 rows)
-unfolding apart-test rows apart modifier-at layout
+unfolding apart-test rows apart modifier-at slots places
 all-apart = tt
 
 pub row-apart : (k : ℕ) → k < row-count → Apart 0 (slots (row-of k))
@@ -64,10 +65,6 @@ pair (r ∷ rs) t zero (suc j) l h =
 pair (r ∷ rs) t (suc i) (suc j) l h =
     pair rs (and-r (every (λ (k : ℕ) (s : Row). differ r s) 0 rs) (pairwise rs) t) i j (le-of-suc-le-suc l) (le-of-suc-le-suc h)
 
-pub both : (a b : Bool) → a && b ≡ true → (a ≡ true) × (b ≡ true)
-both true b e = (refl, e)
-both false b e = let z : _≡_ {A = ℕ} 0 1 = cc in absurd (omega arith)
-
 -- a word that fits a row has its opcode and its secondary opcode
 pub opcode-there : (r : Row) (w : ℕ) → fits r w ≡ true → bits w 48 9 ≡ r .opcode
 opcode-there r w e = eqb-true _ _ (both (eqb (bits w 48 9) (r .opcode)) (eqb (bits w (r .second-low) (r .second-width)) (r .second)) e .0)
@@ -97,51 +94,18 @@ one-row w i j hi hj p q = go (ltb i j) refl (ltb j i) refl
     go false e true e′ = absurd (not-both (row-of j) (row-of i) w (pair rows distinct j i (ltb-true j i e′) (in-table i hi)) q p)
     go false e false e′ = omega (arith, ltb-false i j e, ltb-false j i e′)
 
--- ---- widths: only the offset and the opcode are wider than a byte, and nothing is wider than 27 bits; what gets 4, 5 or 6 has at most 4
+-- ---- widths: nothing is wider than 27 bits, and a modifier than 4
 
-or-right : (a b : Bool) → a ≡ false → T (a || b) → T b
-or-right a b e t = rw e at t
+span-test : Row → Place → Bool
+span-test r p = leb (width (kind-at r p)) 27
 
-span-test : ℕ → Field → Bool
-span-test i f = leb (width (f .kind)) 27
-
-spans-right : T (every (on-fields span-test) 0 rows)
-unfolding span-test rows layout modifier-at
+spans-right : T (every (on-places span-test) 0 rows)
+unfolding span-test rows places modifier-at
 spans-right = tt
 
-pub width-le : (k i : ℕ) → k < row-count → i < slot-count → width-of k i ≤ 27
+pub width-le : (k : ℕ) → k < row-count → (p : Place) → T (placed p) → width (kind-at (row-of k) p) ≤ 27
 unfolding span-test
-width-le k i hk hi = leb→le _ _ (at-field span-test spans-right k i hk hi)
-
--- a refusal of a field of these numbers is for a value of at most four bits, or for a source
-narrow-test : ℕ → Field → Bool
-narrow-test i f = eqb (about (f .kind) .number) 0 || (eqb (about (f .kind) .number) 7 || leb (width (f .kind)) 4)
-
-narrows-right : T (every (on-fields narrow-test) 0 rows)
-unfolding narrow-test rows layout modifier-at
-narrows-right = tt
-
-pub width-narrow : (k i : ℕ) → k < row-count → i < slot-count → about (field-of k i .kind) .number ≢ 0 → about (field-of k i .kind) .number ≢ 7
-    → width-of k i ≤ 4
-unfolding narrow-test
-width-narrow k i hk hi n m =
-    let x = about (field-of k i .kind) .number in
-    leb→le _ _ (or-right (eqb x 7) (leb (width-of k i) 4) (ne-eqb x 7 m)
-    (or-right (eqb x 0) (eqb x 7 || leb (width-of k i) 4) (ne-eqb x 0 n) (at-field narrow-test narrows-right k i hk hi)))
-
--- a source is a byte
-byte-test : ℕ → Field → Bool
-byte-test i f = not (eqb (about (f .kind) .number) 7) || leb (width (f .kind)) 8
-
-bytes-right : T (every (on-fields byte-test) 0 rows)
-unfolding byte-test rows layout modifier-at
-bytes-right = tt
-
-pub width-source : (k i : ℕ) → k < row-count → i < slot-count → about (field-of k i .kind) .number ≡ 7 → width-of k i ≤ 8
-unfolding byte-test
-width-source k i hk hi e =
-    leb→le _ _ (or-right (not (eqb (about (field-of k i .kind) .number) 7)) (leb (width-of k i) 8)
-    (ap not (eq-eqb _ 7 e)) (at-field byte-test bytes-right k i hk hi))
+width-le k hk p hp = leb→le _ _ (at-place span-test spans-right k hk p hp)
 
 -- ---- a secondary opcode stands at bit 16 or 24, or there is none
 
@@ -198,25 +162,3 @@ counts-right = tt
 pub four-sources : (k : ℕ) → k < row-count → row-of k .sources ≤ 4
 unfolding count-test
 four-sources k h = leb→le _ _ (at count-test rows no-row counts-right k (in-table k h))
-
--- ---- the slots of a row
-
-pub slots-length : (r : Row) → length (slots r) ≡ slot-count
-unfolding layout
-slots-length r = refl
-
-lows-same : (r : Row) → map (λ (f : Field). f .low) (layout r) ≡ map (λ (f : Field). f .low) (layout no-row)
-unfolding layout
-lows-same r = refl
-
-pub low-same : (k i : ℕ) → field-of k i .low ≡ low-of i
-low-same k i =
-    sym (List·getD-map (λ (f : Field). f .low) (layout (row-of k)) i no-field)
-    ∙ ap (λ (l : List ℕ). getD l i 0) (lows-same (row-of k))
-    ∙ List·getD-map (λ (f : Field). f .low) (layout no-row) i no-field
-
-pub slot-low : (k i : ℕ) → getD (slots (row-of k)) i (slot-of no-field) .low ≡ low-of i
-slot-low k i = ap (λ (s : Slot). s .low) (List·getD-map slot-of (layout (row-of k)) i no-field) ∙ low-same k i
-
-pub slot-width : (k i : ℕ) → getD (slots (row-of k)) i (slot-of no-field) .width ≡ width-of k i
-slot-width k i = ap (λ (s : Slot). s .width) (List·getD-map slot-of (layout (row-of k)) i no-field)

@@ -1,15 +1,17 @@
 -- A set made from a test has what passes it. Assumes nothing.
-use mathlib.Core.Path.{_≡_, refl, ap, sym, _∙_}
+use mathlib.Core.Path.{_≡_, refl, ap, sym, _∙_, subst}
 use mathlib.Core.Bool.{Bool, true, false}
 use mathlib.Core.Logic.{⊎-elim}
 use Prim.Native.Nat.{ℕ, zero, suc, _+_, _-_, _*_, _/_, _%_, _^_, _<_, _≤_}
-use native.Mathlib.Nat.{two-pow-succ, one-mul, zero-mul, eq-or-lt-of-le}
+use native.Mathlib.Nat.{not-suc-le-zero, two-pow-succ, one-mul, zero-mul, eq-or-lt-of-le}
 use native.Mathlib.Omega.{arith}
-use lib.Dec.{eqb}
+use lib.Dec.{T, eqb}
+use borrow.Author.Tests.{eqb-true, eqb-false}
+use Rattle.bits.proofs.Every.{and-l, and-r}
 use lib.Pow.{high, low, field, mod-mod-pow}
 use Rattle.bits.specs.Fields.{choose}
 use Rattle.bits.specs.Sets.{has}
-use Rattle.rows.specs.Table.{set-of}
+use Rattle.rows.specs.served.Table.{set-of, upto}
 
 digit : Bool → ℕ
 digit true = 1
@@ -25,7 +27,7 @@ unfolding digit
 digit-eqb true = refl
 digit-eqb false = refl
 
-set-lt : (t : ℕ → Bool) (n : ℕ) → set-of t n < 2 ^ n
+pub set-lt : (t : ℕ → Bool) (n : ℕ) → set-of t n < 2 ^ n
 set-lt t zero = omega arith
 set-lt t (suc n) = go (t n) (set-lt t n)
   where
@@ -66,3 +68,12 @@ has-set-of t (suc n) v h = ⊎-elim top (λ l. rest l (has-set-of t n v l)) (eq-
         ∙ ap (λ (x : ℕ). x % 2 ^ n / 2 ^ v % 2) whole
         ∙ ap (λ (x : ℕ). x / 2 ^ v % 2) (low (digit (t n)) n (set-lt t n)))
         ∙ ih
+
+-- a test of all numbers below n, at one of them
+pub upto-at : (n : ℕ) (t : ℕ → Bool) → T (upto n t) → (x : ℕ) → x < n → T (t x)
+upto-at zero t a x h = absurd (not-suc-le-zero h)
+upto-at (suc n) t a x h = go (eqb x n) refl (λ l. upto-at n t (and-r (t n) (upto n t) a) x l)
+  where
+    go : (b : Bool) → eqb x n ≡ b → (x < n → T (t x)) → T (t x)
+    go true q f = subst (λ (y : ℕ). T (t y)) (sym (eqb-true x n q)) (and-l (t n) (upto n t) a)
+    go false q f = f (omega (arith, eqb-false x n q))

@@ -7,35 +7,24 @@ use lib.Dec.{T, ltb}
 use lib.ListN.{replicate}
 use borrow.Author.Tests.{lt-ltb, le-ltb}
 use Rattle.bits.specs.Sets.{has}
-use Rattle.bits.proofs.Every.{every, at}
+use Rattle.bits.proofs.Every.{iff, iff-eq, every, at}
 use Rattle.rows.specs.Sources.{meaning, source-legal}
-use Rattle.rows.specs.Table.{page-word}
-
-alike : Bool → Bool → Bool
-alike true b = b
-alike false b = not b
-
-alike-eq : (a b : Bool) → T (alike a b) → a ≡ b
-unfolding alike
-alike-eq true true t = refl
-alike-eq true false t = absurd t
-alike-eq false true t = absurd t
-alike-eq false false t = refl
+use Rattle.rows.specs.served.Table.{page-word}
 
 byte-test : ℕ → ℕ → ℕ → Bool
-byte-test p b x = alike (source-legal p b) (ltb b 224 || has (page-word p) (b - 224))
+byte-test p b x = iff (source-legal p b) (ltb b 224 || has (page-word p) (b - 224))
 
 page-test : ℕ → ℕ → Bool
 page-test p x = every (byte-test p) 0 (replicate 256 0)
 
 all-bytes : T (every page-test 0 (replicate 4 0))
-unfolding page-test byte-test alike meaning
+unfolding page-test byte-test meaning
 all-bytes = tt
 
 source-eq : (p b : ℕ) → p < 4 → b < 256 → source-legal p b ≡ (ltb b 224 || has (page-word p) (b - 224))
 unfolding page-test byte-test
 source-eq p b hp hb =
-    alike-eq (source-legal p b) (ltb b 224 || has (page-word p) (b - 224))
+    iff-eq (source-legal p b) (ltb b 224 || has (page-word p) (b - 224))
     (at (byte-test p) (replicate 256 0) 0 (at page-test (replicate 4 0) 0 all-bytes p hp) b hb)
 
 pub source-low : (p b : ℕ) → p < 4 → b < 224 → true ≡ source-legal p b

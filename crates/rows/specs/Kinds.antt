@@ -64,20 +64,17 @@ pub record About : Type 0 where
   pub legal : List Range
   -- what a default instruction has there (the paper's fresh record)
   pub default : ℕ
-  -- the number of the refusal that an illegal value gets; 0 where no value that has room is illegal
-  pub number : ℕ
 
--- a modifier: "6: illegal modifier"
 abbrev pub modifier : ℕ → List Range → ℕ → About
-modifier n l d = record { width = n; legal = l; default = d; number = 6 }
+modifier n l d = record { width = n; legal = l; default = d }
 
 -- a field of which no number that has room is illegal; what is legal isn't asked
 abbrev pub free : ℕ → About
-free n = record { width = n; legal = []; default = 0; number = 0 }
+free n = record { width = n; legal = []; default = 0 }
 
 -- "H = 2, W16 = 2, mux = 1, all else 0" are the defaults
 abbrev pub about : Kind → About
-about absent = record { width = 0; legal = only 0 ∷ []; default = 0; number = 0 }
+about absent = record { width = 0; legal = only 0 ∷ []; default = 0 }
 about flag = modifier 1 (0 to 1 ∷ []) 0
 about two-bits = modifier 2 (0 to 3 ∷ []) 0
 -- "3 is refused"
@@ -97,18 +94,22 @@ about mux = modifier 2 (0 to 3 ∷ []) 1
 about combine = modifier 3 (0 to 4 ∷ []) 0
 -- "NaN mode 8-9 (0-2 legal)"
 about nan-mode = modifier 2 (0 to 2 ∷ []) 0
--- "7: refused source"; which bytes are legal is said by their meaning
-about source = record { width = 8; legal = []; default = 0; number = 7 }
+-- which bytes are legal is said by their meaning (Sources)
+about source = free 8
 about offset = free 27
 about (second n) = free n
 about register = free 6
 -- "1 low, 2 high, 3 full; 0 is refused"
-about half-mask = record { width = 2; legal = 1 to 3 ∷ []; default = 3; number = 5 }
+about half-mask = record { width = 2; legal = 1 to 3 ∷ []; default = 3 }
 about opcode = free 9
 -- "The page is legal, and kept, when no source uses it."
 about page = free 2
 -- "Flow is 002's "Flow" in order: 11, 12 and 14 are reserved, 15 is `end`."
-about flow = record { width = 4; legal = 0 to 10 ∷ only 13 ∷ only 15 ∷ []; default = 0; number = 4 }
+about flow = record { width = 4; legal = 0 to 10 ∷ only 13 ∷ only 15 ∷ []; default = 0 }
 
 abbrev pub width : Kind → ℕ
 width k = about k .width
+
+-- v is one of the legal values of a kind
+abbrev pub legal-value : Kind → ℕ → Bool
+legal-value k v = within (about k .legal) v

@@ -3,5 +3,4 @@ pub mod Rows
 pub mod Layout
 pub mod Sources
 pub mod Names
-pub mod Table
-pub mod Lines
+pub mod served

@@ -22,15 +22,15 @@ name-of k = ascii (row-of k .name)
 abbrev pub name-width : ℕ
 name-width = 18
 
-abbrev pub padded : List ℕ → List ℕ
-padded s = s ++ replicate (name-width - length s) 32
+abbrev pub filled : List ℕ → List ℕ
+filled s = s ++ replicate (name-width - length s) 32
 
 unfoldable pub name : ℕ → Name
-name k = record { bytes = padded (name-of k); len = length (name-of k) }
+name k = record { bytes = filled (name-of k); len = length (name-of k) }
 
 -- the names of all rows in their order, each in name-width bytes
 unfoldable pub names : List (List ℕ)
-names = map (λ (r : Row). padded (ascii (r .name))) rows
+names = map (λ (r : Row). filled (ascii (r .name))) rows
 
 -- how many bytes stand before the first space
 unfoldable pub before-space : List ℕ → ℕ

@@ -1,4 +1,3 @@
 // The instruction table: the rows, what stands in the fields of their words, and their names.
-pub mod lines;
 pub mod names;
 pub mod table;

@@ -1,12 +1,14 @@
 // The run-only examples of paper 01 on words and records: a line for each, with the answer.
-use isa::answer::Fresh;
-use isa::answer::Reading;
-use isa::answer::Refusal;
-use isa::answer::Written;
-use isa::instruction::Instruction;
-use isa::reader::effect_in;
-use isa::reader::read_word;
-use isa::writer::write_word;
+use codec::read_word;
+use codec::write_word;
+use reader::answer::Reading;
+use record::answer::Fresh;
+use record::answer::Refusal;
+use record::instruction::Instruction;
+use record::instruction::MODIFIERS;
+use record::instruction::Modifiers;
+use record::instruction::Sources;
+use writer::answer::Written;
 
 fn text(s: &[u8]) {
     io::write_all(libc::STDOUT_FILENO, s);
@@ -131,28 +133,13 @@ fn fresh_zero() -> Instruction {
         flow: 0,
         register: 0,
         half_mask: 0,
-        sources: isa::instruction::Sources {
+        sources: Sources {
             s0: 0,
             s1: 0,
             s2: 0,
             s3: 0,
         },
-        modifiers: isa::instruction::Modifiers {
-            m8: 0,
-            m10: 0,
-            m11: 0,
-            m24: 0,
-            m26: 0,
-            m28: 0,
-            m30: 0,
-            m32: 0,
-            m34: 0,
-            m35: 0,
-            m36: 0,
-            m37: 0,
-            m38: 0,
-            m39: 0,
-        },
+        modifiers: Modifiers::of([0; MODIFIERS]),
         offset: 0,
     }
 }
@@ -203,7 +190,7 @@ fn faults() {
     reads_word(0x00A4C00000000201);
 }
 
-// A row's default, written and read back: its number, its name and its word, and whether its effect is seen at once.
+// A row's default, written and read back: its number, its name and its word.
 fn row_default(row: usize) {
     number(row as u64);
     text(b" ");
@@ -218,17 +205,7 @@ fn row_default(row: usize) {
         Reading::Read(i) => say_again(i, buffer),
         Reading::Refused(f) => say_refusal(f),
     }
-    say_known(&buffer);
     text(b"\n");
-}
-
-fn say_known(bytes: &[u8]) {
-    let e = effect_in(bytes);
-    if e.known {
-        text(b", known");
-    } else {
-        text(b", not known");
-    }
 }
 
 // Whether writing the record read gives the word again.

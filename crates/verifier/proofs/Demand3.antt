@@ -6,18 +6,18 @@ use lib.Dec.{T}
 use lib.Pow.{areBytes}
 use Rattle.bits.specs.Outcomes.{Outcome, gives, refuses, passes, _then_}
 use Rattle.bits.proofs.OutcomeLaws.{never}
-use Rattle.isa.specs.declared.instruction.Instruction.{Instruction}
-use Rattle.isa.specs.declared.answer.Refusal.{Refusal}
-use Rattle.isa.specs.Reader.{read}
+use Rattle.record.specs.declared.instruction.Instruction.{Instruction}
+use Rattle.record.specs.declared.answer.Refusal.{Refusal}
+use Rattle.reader.specs.Reader.{read}
 use Rattle.container.specs.declared.header.Header.{Header}
 use Rattle.container.specs.Container.{count-of, words-of, eight}
 use Rattle.container.specs.Opening.{open-outcome, Opens}
 use Rattle.container.proofs.OpeningLaws.{sized, opened}
-use Rattle.verifier.specs.Walks.{AllSafe}
+use Rattle.walks.specs.Walks.{AllSafe}
 use Rattle.verifier.specs.Program.{machine, program-of, machine-of, WellFormed}
 use Rattle.verifier.specs.Verdict.{Judgement, first, judge-opening, judge-reading, judge-word, judge-program, verdict-of}
 use Rattle.verifier.specs.Demand3.{Demand3At, Demand3}
-use Rattle.verifier.proofs.WalkLaws.{sound, complete, all-supplied}
+use Rattle.walks.proofs.WalkLaws.{sound, complete, all-supplied}
 use Rattle.verifier.proofs.VerdictLaws.{both, neither, first-of, first-to}
 use Rattle.verifier.proofs.ProgramLaws.{passes-of, passes-to, adds-dec, needs-fact, claims-fact, goes-on}
 

@@ -13,19 +13,19 @@ use Rattle.bits.specs.Sets.{Has, minus, lowest-from}
 use Rattle.bits.specs.Outcomes.{refuses, passes, _then_}
 use Rattle.bits.proofs.OutcomeLaws.{never}
 use Rattle.rows.specs.Rows.{rows}
-use Rattle.rows.specs.Layout.{modifier-at, layout}
+use Rattle.rows.specs.Layout.{modifier-at, places, slots}
 use Rattle.rows.specs.Sources.{meaning}
 use Rattle.bits.specs.Signed.{unsigned, signed}
-use Rattle.isa.specs.Instructions.{numbers}
-use Rattle.isa.specs.Legality.{scan, judge}
-use Rattle.isa.specs.Reader.{find, lowest-stray, read-row, read}
-use Rattle.isa.specs.Registers.{reads, kills, defines}
+use Rattle.record.specs.Legality.{judge-modifiers, judge-sources, judge}
+use Rattle.reader.specs.Reader.{lowest-stray, read-row, read}
+use Rattle.rows.specs.Layout.{find}
+use Rattle.record.specs.Registers.{reads, kills, defines}
 use Rattle.container.specs.Container.{version-of, count-of, entry-of, words-of, annotations-of}
 use Rattle.container.specs.Opening.{open-outcome}
 use Rattle.verifier.specs.declared.verdict.Finding.{Finding}
-use Rattle.verifier.specs.Walks.{start, step, AllSafe, AllReached, Exact}
+use Rattle.walks.specs.Walks.{start, step, AllSafe, AllReached, Exact}
 use Rattle.verifier.specs.Program.{successors, after, machine, instruction-at, annotation-at, program-of, machine-of}
-use Rattle.verifier.specs.Verdict.{Judgement, first, each, none-missing, judge-opening, judge-word, judge-successor, judge-instruction, judge-index, judge-program, verdict-of}
+use Rattle.verifier.specs.Verdict.{Judgement, first, each, none-missing, judge-opening, judge-word, judge-successor, judge-flow, judge-index, judge-program, verdict-of}
 use Rattle.verifier.specs.Demand3.{Demand3}
 use Rattle.verifier.proofs.Demand3.{demand3}
 
@@ -64,7 +64,7 @@ unfolding bad container none nop mov-end
 bad-bytes = tt
 
 good-accepted : verdict-of good ≡ passes
-unfolding good container none nop-end verdict-of first each judge-program judge-instruction judge-successor none-missing after minus open-outcome version-of count-of entry-of words-of annotations-of little instruction-at annotation-at successors read read-row find rows layout modifier-at lowest-stray lowest-from assigned judge scan numbers unsigned signed meaning reads kills defines _then_
+unfolding good container none nop-end verdict-of first each judge-program judge-flow judge-successor none-missing after minus open-outcome version-of count-of entry-of words-of annotations-of little instruction-at annotation-at successors read read-row find rows places slots modifier-at lowest-stray lowest-from assigned judge judge-modifiers judge-sources unsigned signed meaning reads kills defines _then_
 good-accepted = refl
 
 nothing : {X : Type 0} → _≡_ {A = ℕ} 0 1 → X
@@ -83,7 +83,7 @@ good-exact (suc i) l r k = absurd (omega arith)
 
 -- a walk of `bad` reads r2 where it is not defined
 bad-unsafe : ¬ AllSafe (machine-of bad)
-unfolding bad container none nop mov-end machine Has open-outcome version-of count-of entry-of words-of annotations-of little instruction-at annotation-at successors read read-row find rows layout modifier-at lowest-stray lowest-from assigned judge scan numbers unsigned signed meaning reads kills defines _then_
+unfolding bad container none nop mov-end machine Has open-outcome version-of count-of entry-of words-of annotations-of little instruction-at annotation-at successors read read-row find rows places slots modifier-at lowest-stray lowest-from assigned judge judge-modifiers judge-sources unsigned signed meaning reads kills defines _then_
 bad-unsafe safe =
     ⊎-elim (λ a. nothing a) (λ b. nothing (b .0))
     (safe (1 ∷ 0 ∷ []) (step start (List·Memᴰ·head refl) (omega arith)) .0 .needed 2 refl)
@@ -107,7 +107,7 @@ first-only s =
     then judge-index (program-of s) 0
 
 bad-passes : first-only bad ≡ passes
-unfolding bad container none nop mov-end first-only first each judge-program judge-instruction judge-successor none-missing after minus open-outcome version-of count-of entry-of words-of annotations-of little instruction-at annotation-at successors read read-row find rows layout modifier-at lowest-stray lowest-from assigned judge scan numbers unsigned signed meaning reads kills defines _then_
+unfolding bad container none nop mov-end first-only first each judge-program judge-flow judge-successor none-missing after minus open-outcome version-of count-of entry-of words-of annotations-of little instruction-at annotation-at successors read read-row find rows places slots modifier-at lowest-stray lowest-from assigned judge judge-modifiers judge-sources unsigned signed meaning reads kills defines _then_
 bad-passes = refl
 
 pub only-first : ¬ Demand3 first-only

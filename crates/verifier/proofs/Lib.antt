@@ -1,4 +1,3 @@
-pub mod WalkLaws
 pub mod VerdictLaws
 pub mod ProgramLaws
 pub mod BranchLaws
@@ -6,3 +5,4 @@ pub mod PassLaws
 pub mod Demand3
 pub mod ReasonLaws
 pub mod LazyChecks
+pub mod NumberedLaws

@@ -9,18 +9,29 @@ use lib.ListN.{length, take, drop}
 use Rattle.bits.specs.Sets.{minus, union}
 use Rattle.bits.specs.Outcomes.{Outcome, gives, refuses, passes, _then_}
 use Rattle.bits.proofs.OutcomeLaws.{then-passed, then-refused}
-use Rattle.isa.specs.declared.instruction.Instruction.{Instruction}
-use Rattle.isa.specs.declared.answer.Refusal.{Refusal}
-use Rattle.isa.specs.Reader.{read}
-use Rattle.isa.specs.declared.registers.Effect.{Effect}
-use Rattle.isa.specs.Registers.{reads, ends, branches, Does}
+use Rattle.record.specs.declared.instruction.Instruction.{Instruction}
+use Rattle.record.specs.declared.answer.Refusal.{Refusal}
+use Rattle.reader.specs.Reader.{read}
+use Rattle.record.specs.Registers.{ends, branches}
 use Rattle.container.specs.declared.header.Header.{Header}
 use Rattle.container.specs.Container.{header-length, word-length, annotation-length, annotations-start, words-of, annotations-of, eight}
 use Rattle.container.specs.Opening.{open-outcome}
 use Rattle.container.proofs.OpeningLaws.{sized, length-words, length-annotations, words-to, annotations-from}
 use Rattle.verifier.specs.Program.{Program, successors, landing, after, instruction-in, instruction-at, annotation-at, program-in, Worded, Annotated}
-use Rattle.verifier.specs.Verdict.{Judgement, finding, no-register, first, each, none-missing, judge-opening, judge-reading, judge-word, judge-successor, judge-instruction, Sound, PassesAt, judge-index, judge-program, verdict-of}
-use Rattle.verifier.proofs.VerdictLaws.{neither, then-none, none-to, lands-same, begun, kept-on, stopped, ended, first-more}
+use Rattle.verifier.specs.declared.verdict.Finding.{Finding}
+use Rattle.verifier.specs.declared.verdict.Verdict.{Verdict}
+use Rattle.verifier.specs.declared.verdict.Verdict.the-variants.{Accepted, Refused}
+use Rattle.verifier.specs.Verdict.{Judgement, verdict-outcome, finding, no-register, first, each, none-missing, judge-opening, judge-reading, judge-word, judge-successor, judge-flow, judge-index, judge-program, verdict-of}
+use Rattle.verifier.proofs.VerdictLaws.{then-none, first-more, first-stop}
+
+-- a verdict and what follows it
+pub followed : {r : Verdict} {a b c : Judgement} → r ≡ Accepted → verdict-outcome r ≡ a → c ≡ b → c ≡ (a then b)
+unfolding _then_
+followed er ea ec = ec ∙ rw (sym ea ∙ ap verdict-outcome er)
+
+pub halted : {r : Verdict} {a : Judgement} {f : Finding} (b : Judgement) → r ≡ Refused f → verdict-outcome r ≡ a → refuses f ≡ (a then b)
+unfolding _then_
+halted b er ea = rw (sym ea ∙ ap verdict-outcome er)
 
 -- the successors of instruction i, by what it is
 module _ (f : ℤ → Judgement) (x : Instruction) (i : ℕ) where
@@ -37,77 +48,60 @@ module _ (f : ℤ → Judgement) (x : Instruction) (i : ℕ) where
     unfolding successors each
     at-branch b {c} q = rw (p, q, e, b, then-none (f (pos (i + 1) +ℤ x .offset)))
 
--- an effect at instruction i, where `held` is defined after it
-module _ (n : ℕ) (annotation : ℕ → ℕ) (i : ℕ) (e : Effect) {held : ℕ} (enough : minus (e .reads) (annotation i) ≡ 0)
-    (leaves : held ≡ union (minus (annotation i) (e .kills)) (e .defines)) where
-  judged : (x : Instruction) → Does e x → each (judge-successor n annotation i held) (successors x i) ≡ passes
-      → judge-instruction n annotation i x ≡ passes
-  unfolding judge-instruction after
-  judged x d t =
-      neither (none-to 20 i (reads x) (annotation i) (rw (d .reads-told) at enough))
-      (rw (leaves, d .kills-told, d .defines-told) at t)
+-- all words before index i read
+module _ (words : List ℕ) where
+  pub read-on : (i : ℕ) {x : Instruction} → first (judge-word words) i ≡ passes → gives x ≡ read (eight words i) → first (judge-word words) (i + 1) ≡ passes
+  read-on i h e = first-more (judge-word words) i h (sym (ap (judge-reading i) e))
 
-  pub sound-end : e .ends ≡ true → Sound n annotation i e
-  sound-end t x d = judged x d (sym (at-end (judge-successor n annotation i held) x i (sym (d .ends-told) ∙ t)))
+  module _ (i n : ℕ) (h : first (judge-word words) i ≡ passes) where
+    -- a word that does not read, at index i
+    pub unread : {f : Refusal} {r : Judgement} (b : Judgement) → i < n → refuses f ≡ read (eight words i)
+        → r ≡ refuses (finding (f .number) (f .place) i no-register) → r ≡ (first (judge-word words) n then b)
+    unread b l e q = q ∙ sym (then-refused b (first-stop (judge-word words) i n l h (sym (ap (judge-reading i) e))))
 
-  module _ (t : e .ends ≡ false) (next : judge-successor n annotation i held (pos (i + 1)) ≡ passes) where
-    pub sound-next : e .branches ≡ false → Sound n annotation i e
-    sound-next b x d =
-        judged x d
-        (sym (at-next (judge-successor n annotation i held) x i (sym (d .ends-told) ∙ t) (sym next) (sym (d .branches-told) ∙ b)))
+    -- all n read
+    pub all-read : (b : Judgement) → i ≡ n → b ≡ (first (judge-word words) n then b)
+    all-read b q = sym (then-passed b (ap (first (judge-word words)) (sym q) ∙ h))
 
-    pub sound-branch : e .branches ≡ true → judge-successor n annotation i held (pos (landing n (pos (i + 1) +ℤ e .offset))) ≡ passes
-        → Sound n annotation i e
-    unfolding _then_
-    sound-branch b far x d =
-        let y = sym (d .branches-told) ∙ b in
-        let there = sym (lands-same n annotation i held (pos (i + 1) +ℤ e .offset)) ∙ far in
-        judged x d
-        (sym (at-branch (judge-successor n annotation i held) x i (sym (d .ends-told) ∙ t) (sym next) y (sym (rw (d .offset-told y) at there))))
-
--- the pass over n words and annotations, with the judgement v before the first
-module _ (words annotations : List ℕ) (n entry : ℕ) (v : Judgement) where
+-- the pass over n words and annotations
+module _ (words annotations : List ℕ) (n : ℕ) where
   abbrev P : Program
-  P = program-in words annotations n entry
+  P = program-in words annotations n 0
 
-  -- what is kept before instruction i, with all words before it read
-  pub record Kept (i : ℕ) (k : Judgement) : Type 0 where
+  -- the words before index i read, and the instructions before it pass
+  pub record Passed (i : ℕ) : Type 0 where
     pub reads : first (judge-word words) i ≡ passes
-    pub keeps : k ≡ (v then first (judge-index P) i)
+    pub judged : first (judge-index P) i ≡ passes
 
-  pub starts : Kept 0 v
+  pub starts : Passed 0
   unfolding first
-  starts = record { reads = refl; keeps = begun (judge-word words) (judge-index P) v }
+  starts = record { reads = refl; judged = refl }
 
-  module _ {i : ℕ} {k : Judgement} (kept : Kept i k) where
-    pub turns : {x : Instruction} {r : Judgement} → gives x ≡ read (eight words i) → r ≡ (k then judge-instruction n (annotation-at annotations) i x)
-        → Kept (i + 1) r
-    unfolding instruction-at
-    turns {x} e q = record {
-      reads = first-more (judge-word words) i (kept .reads) (sym (ap (judge-reading i) e));
-      keeps =
-          kept-on (judge-word words) (judge-index P) v i (kept .keeps)
-          (q ∙ ap (λ (y : Outcome Refusal Instruction). k then judge-instruction n (annotation-at annotations) i (instruction-in y)) e);
-    }
+  module _ {i : ℕ} (p : Passed i) where
+    module _ {x : Instruction} (e : gives x ≡ read (eight words i)) where
+      same : {v : Judgement} → v ≡ judge-flow n (annotation-at annotations) i x → v ≡ judge-index P i
+      unfolding instruction-at
+      same q = q ∙ ap (λ (y : Outcome Refusal Instruction). judge-flow n (annotation-at annotations) i (instruction-in y)) e
 
-    -- a word that passes leaves it as it is
-    pub skips : {r : Judgement} → r ≡ k → PassesAt words annotations n i → Kept (i + 1) r
-    skips q p = turns (sym (p .told)) (q ∙ sym (then-none k) ∙ ap (λ (y : Judgement). k then y) (sym (p .judged)))
+      pub turns : {v : Judgement} → v ≡ judge-flow n (annotation-at annotations) i x → v ≡ passes → Passed (i + 1)
+      turns q z = record { reads = read-on words i (p .reads) e; judged = first-more (judge-index P) i (p .judged) (sym (same q) ∙ z) }
 
-    module _ (hv : v ≡ none-missing 23 0 (annotation-at annotations 0) entry) where
-      whole : (first (judge-word words) n then v then first (judge-index P) n) ≡ (first (judge-word words) n then judge-program P)
-      unfolding judge-program
-      whole = rw hv
+      pub fails : {v r : Judgement} {f : Finding} → i < n → v ≡ judge-flow n (annotation-at annotations) i x → v ≡ refuses f
+          → r ≡ (first (judge-word words) n then refuses f) → r ≡ (first (judge-word words) n then first (judge-index P) n)
+      fails l q z er = er ∙ ap (λ (b : Judgement). first (judge-word words) n then b) (sym (first-stop (judge-index P) i n l (p .judged) (sym (same q) ∙ z)))
 
-      pub stops : {f : Refusal} {r : Judgement} → i < n → refuses f ≡ read (eight words i)
-          → r ≡ refuses (finding (f .number) (f .place) i no-register) → r ≡ (first (judge-word words) n then judge-program P)
-      stops l e q = q ∙ stopped (judge-word words) (judge-index P) v i n l (kept .reads) (ap (judge-reading i) e) ∙ whole
+    pub passed-all : i ≡ n → passes ≡ (first (judge-word words) n then first (judge-index P) n)
+    passed-all q = sym (ap (first (judge-index P)) (sym q) ∙ p .judged) ∙ all-read words i n (p .reads) (first (judge-index P) n) q
 
-      pub ends-at : i ≡ n → k ≡ (first (judge-word words) n then judge-program P)
-      ends-at q =
-          ended (judge-word words) (judge-index P) v n (ap (first (judge-word words)) (sym q) ∙ kept .reads)
-          (kept .keeps ∙ ap (λ (m : ℕ). v then first (judge-index P) m) q)
-          ∙ whole
+-- 23 before the instructions, and after the words
+module _ (words annotations : List ℕ) (n entry : ℕ) {v : Judgement} (hv : v ≡ none-missing 23 0 (annotation-at annotations 0) entry) where
+  pub entered : {r : Judgement} → v ≡ passes → r ≡ (first (judge-word words) n then first (judge-index (program-in words annotations n entry)) n) → r ≡ (first (judge-word words) n then judge-program (program-in words annotations n entry))
+  unfolding judge-program
+  entered z e = e ∙ ap (λ (b : Judgement). first (judge-word words) n then b) (sym (then-passed _ (sym hv ∙ z)))
+
+  pub barred : {f : Finding} {r : Judgement} → v ≡ refuses f → r ≡ (first (judge-word words) n then refuses f) → r ≡ (first (judge-word words) n then judge-program (program-in words annotations n entry))
+  unfolding judge-program
+  barred z e = e ∙ ap (λ (b : Judgement). first (judge-word words) n then b) (sym (then-refused _ (sym hv ∙ z)))
 
 -- a container that does not open
 pub unopened : (s : List ℕ) {n : ℕ} {r : Judgement} → open-outcome s ≡ refuses n → r ≡ refuses (finding n 0 0 no-register) → r ≡ verdict-of s

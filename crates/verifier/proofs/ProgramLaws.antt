@@ -16,14 +16,14 @@ use Rattle.bits.specs.Outcomes.{passes}
 use Rattle.bits.proofs.Every.{and-r}
 use Rattle.bits.proofs.ByteLaws.{little-lt}
 use Rattle.bits.proofs.SetLaws.{has-dec, has-or, has-minus, minus-zero, zero-minus, member-below}
-use Rattle.isa.specs.declared.instruction.Instruction.{Instruction}
-use Rattle.isa.specs.Registers.{reads, kills, defines, ends}
-use Rattle.isa.proofs.RegisterLaws.{reads-lt}
+use Rattle.record.specs.declared.instruction.Instruction.{Instruction}
+use Rattle.record.specs.Registers.{reads, kills, defines, ends}
+use Rattle.record.proofs.RegisterLaws.{reads-lt}
 use Rattle.container.specs.Container.{annotation-length, annotations-start, count-of, annotations-of, eight}
-use Rattle.verifier.specs.Walks.{Inside, AllSafe}
+use Rattle.walks.specs.Walks.{Inside, AllSafe}
 use Rattle.verifier.specs.Program.{Program, successors, after, machine, annotation-at, machine-of, NeverRunsOff}
-use Rattle.verifier.specs.Verdict.{first, each, none-missing, judge-successor, judge-instruction, judge-index, judge-program}
-use Rattle.verifier.proofs.WalkLaws.{Passes}
+use Rattle.verifier.specs.Verdict.{first, each, none-missing, judge-successor, judge-flow, judge-index, judge-program}
+use Rattle.walks.specs.served.Passing.{Passes}
 use Rattle.verifier.proofs.VerdictLaws.{both, neither, first-of, first-to, each-of, each-to, none-of, none-to, successor-of, successor-to}
 
 -- what is defined after an instruction
@@ -40,24 +40,24 @@ module _ (n : ℕ) (annotation : ℕ → ℕ) (i : ℕ) (x : Instruction) where
   abbrev Held : ℕ
   Held = after x (annotation i)
 
-  parts-of : judge-instruction n annotation i x ≡ passes
+  parts-of : judge-flow n annotation i x ≡ passes
       → (minus (reads x) (annotation i) ≡ 0) × (each (judge-successor n annotation i Held) (successors x i) ≡ passes)
-  unfolding judge-instruction
+  unfolding judge-flow
   parts-of e =
       let b = both {a = none-missing 20 i (reads x) (annotation i)} {b = each (judge-successor n annotation i Held) (successors x i)} e in
       (none-of 20 i (reads x) (annotation i) (b .0), b .1)
 
-  reads-of : judge-instruction n annotation i x ≡ passes → minus (reads x) (annotation i) ≡ 0
+  reads-of : judge-flow n annotation i x ≡ passes → minus (reads x) (annotation i) ≡ 0
   reads-of e = parts-of e .0
 
-  follows-of : judge-instruction n annotation i x ≡ passes → (z : ℤ) → List·Memᴰ z (successors x i)
+  follows-of : judge-flow n annotation i x ≡ passes → (z : ℤ) → List·Memᴰ z (successors x i)
       → (s : Inside n z) × (minus (annotation (s .index)) Held ≡ 0)
   follows-of e z q = successor-of n annotation i Held z (each-of (judge-successor n annotation i Held) (successors x i) (parts-of e .1) z q)
 
   instruction-to : minus (reads x) (annotation i) ≡ 0
       → ((z : ℤ) → List·Memᴰ z (successors x i) → (s : Inside n z) × (minus (annotation (s .index)) Held ≡ 0))
-      → judge-instruction n annotation i x ≡ passes
-  unfolding judge-instruction
+      → judge-flow n annotation i x ≡ passes
+  unfolding judge-flow
   instruction-to r f =
       neither (none-to 20 i (reads x) (annotation i) r)
       (each-to (judge-successor n annotation i Held) (successors x i) (λ z q. let s = f z q in successor-to n annotation i Held z (s .0) (s .1)))

@@ -11,19 +11,19 @@ use lib.IntN.{ℤ, pos, negsuc}
 use lib.Pow.{areBytes}
 use Rattle.bits.specs.Sets.{minus, lowest}
 use Rattle.bits.specs.Outcomes.{Outcome, gives, refuses, require, _then_}
-use Rattle.bits.proofs.OutcomeLaws.{never}
+use Rattle.bits.proofs.OutcomeLaws.{never, told}
 use Rattle.bits.proofs.SetLaws.{has-dec, has-minus, lowest-in}
-use Rattle.isa.specs.declared.instruction.Instruction.{Instruction}
-use Rattle.isa.specs.declared.answer.Refusal.{Refusal}
-use Rattle.isa.specs.Reader.{read}
-use Rattle.isa.specs.Registers.{reads}
-use Rattle.isa.proofs.RegisterLaws.{reads-lt}
+use Rattle.record.specs.declared.instruction.Instruction.{Instruction}
+use Rattle.record.specs.declared.answer.Refusal.{Refusal}
+use Rattle.reader.specs.Reader.{read}
+use Rattle.record.specs.Registers.{reads}
+use Rattle.record.proofs.RegisterLaws.{reads-lt}
 use Rattle.container.specs.declared.header.Header.{Header}
 use Rattle.container.specs.Container.{count-of, words-of, eight}
 use Rattle.container.specs.Opening.{open-outcome}
 use Rattle.verifier.specs.declared.verdict.Finding.{Finding}
 use Rattle.verifier.specs.Program.{Program, successors, after, program-of}
-use Rattle.verifier.specs.Verdict.{Judgement, finding, no-register, first, each, none-missing, judge-opening, judge-reading, judge-word, judge-successor, judge-instruction, judge-index, judge-program, verdict-of}
+use Rattle.verifier.specs.Verdict.{finding, no-register, first, each, none-missing, judge-opening, judge-reading, judge-word, judge-successor, judge-flow, judge-index, judge-program, verdict-of}
 use Rattle.verifier.specs.Reasons.{LowestMissing, Wrong, entry-lacks, annotation-lacks, runs-off, successor-lacks, Reason, unopened, unreadable, wrong}
 use Rattle.verifier.proofs.VerdictLaws.{either, first-refused, each-refused, some-of, inside-to}
 use Rattle.verifier.proofs.ProgramLaws.{annotation-lt}
@@ -50,9 +50,6 @@ reported : (n i named held : ℕ) {f : Finding} → named < 2 ^ 64 → none-miss
 reported n i named held h e =
     let s = some-of n i named held e in
     (lowest (minus named held), missing-lowest named held h (s .0), s .1)
-
-told : {f g : Finding} → _≡_ {A = Judgement} (refuses f) (refuses g) → f ≡ g
-told e = cc
 
 module _ (p : Program) (small : (i : ℕ) → p .annotation i < 2 ^ 64) where
   module _ (i : ℕ) (l : i < p .count) where
@@ -82,7 +79,7 @@ module _ (p : Program) (small : (i : ℕ) → p .annotation i < 2 ^ 64) where
         differ e = let z : _≡_ {A = ℕ} 0 1 = cc in omega arith
 
     instruction-wrong : {f : Finding} → judge-index p i ≡ refuses f → Wrong p f
-    unfolding judge-instruction
+    unfolding judge-flow
     instruction-wrong {f} e =
         ⊎-elim
         (λ q. let r = reported 20 i (reads (p .instruction i)) (p .annotation i) (reads-lt (p .instruction i)) q in

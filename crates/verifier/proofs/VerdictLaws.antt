@@ -15,7 +15,7 @@ use Rattle.bits.specs.Sets.{minus, lowest}
 use Rattle.bits.specs.Outcomes.{gives, refuses, passes, require, _then_}
 use Rattle.bits.proofs.OutcomeLaws.{never, then-gives, then-passed, then-refused, required}
 use Rattle.verifier.specs.declared.verdict.Finding.{Finding}
-use Rattle.verifier.specs.Walks.{Inside}
+use Rattle.walks.specs.Walks.{Inside}
 use Rattle.verifier.specs.Program.{landing}
 use Rattle.verifier.specs.Verdict.{Judgement, finding, no-register, first, each, none-missing, judge-successor}
 
@@ -76,24 +76,6 @@ first-stop f i zero h a r = absurd (omega arith)
 first-stop f i (suc n) h a r =
     ⊎-elim (λ q. ap (λ (k : ℕ). first f k then f k) (sym q) ∙ then-passed (f i) a ∙ r)
     (λ l. then-refused (f n) (first-stop f i n l a r)) (eq-or-lt-of-le (le-of-suc-le-suc h))
-
--- one pass over words keeps the first refusal of another test: at the start, at each turn, at the end, and where a word refuses
-module _ (f g : ℕ → Judgement) (v : Judgement) where
-  pub begun : v ≡ (v then first g 0)
-  unfolding first
-  begun = sym (then-none v)
-
-  pub kept-on : (i : ℕ) {k r : Judgement} → k ≡ (v then first g i) → r ≡ (k then g i) → r ≡ (v then first g (i + 1))
-  unfolding first
-  kept-on i e q = q ∙ ap (λ (x : Judgement). x then g i) e ∙ then-assoc v (first g i) (g i) ∙ rw (add-one i)
-
-  pub stopped : (i n : ℕ) {r : Finding} → i < n → first f i ≡ passes → refuses r ≡ f i → refuses r ≡ (first f n then v then first g n)
-  stopped i n h a e = sym (then-refused (v then first g n) (first-stop f i n h a (sym e)))
-
-  pub ended : (n : ℕ) {r : Judgement} → first f n ≡ passes → r ≡ (v then first g n) → r ≡ (first f n then v then first g n)
-  ended n a e = e ∙ sym (then-passed (v then first g n) a)
-
--- along a list
 
 module _ {A : Type 0} (f : A → Judgement) where
   pub each-of : (xs : List A) → each f xs ≡ passes → (x : A) → List·Memᴰ x xs → f x ≡ passes

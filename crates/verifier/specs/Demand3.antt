@@ -10,7 +10,7 @@ use Prim.Native.Nat.{ℕ}
 use lib.Dec.{T}
 use lib.Pow.{areBytes}
 use Rattle.bits.specs.Outcomes.{passes}
-use Rattle.verifier.specs.Walks.{AllSafe, AllReached, Exact, AllSupplied}
+use Rattle.walks.specs.Walks.{AllSafe, AllReached, Exact, AllSupplied}
 use Rattle.verifier.specs.Program.{program-of, machine-of, WellFormed, NeverRunsOff}
 use Rattle.verifier.specs.Verdict.{Judgement}
 

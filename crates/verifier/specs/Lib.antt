@@ -1,4 +1,3 @@
-pub mod Walks
 pub mod Program
 pub mod Verdict
 pub mod Reasons

@@ -11,14 +11,14 @@ use Rattle.bits.specs.Fields.{choose}
 use Rattle.bits.specs.Bytes.{little}
 use Rattle.bits.specs.Sets.{Has, minus, union}
 use Rattle.bits.specs.Outcomes.{Outcome, gives, refuses}
-use Rattle.isa.specs.declared.instruction.Instruction.{Instruction}
-use Rattle.isa.specs.declared.answer.Refusal.{Refusal}
-use Rattle.isa.specs.Defaults.{default-instruction}
-use Rattle.isa.specs.Reader.{read}
-use Rattle.isa.specs.Registers.{reads, kills, defines, ends, branches}
+use Rattle.record.specs.declared.instruction.Instruction.{Instruction}
+use Rattle.record.specs.declared.answer.Refusal.{Refusal}
+use Rattle.record.specs.Defaults.{default-instruction}
+use Rattle.reader.specs.Reader.{read}
+use Rattle.record.specs.Registers.{reads, kills, defines, ends, branches}
 use Rattle.container.specs.Container.{most-instructions, word-length, annotation-length, count-of, entry-of, words-of, annotations-of, eight}
 use Rattle.container.specs.Opening.{Opens}
-use Rattle.verifier.specs.Walks.{Machine, Inside, Walk}
+use Rattle.walks.specs.Walks.{Machine, Inside, Walk}
 
 -- "Bit r of a set is register r", of 64
 abbrev pub register-count : ℕ

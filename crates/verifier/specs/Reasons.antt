@@ -5,13 +5,13 @@ use Prim.Native.Nat.{ℕ, _<_}
 use lib.IntN.{ℤ, pos}
 use Rattle.bits.specs.Sets.{Has}
 use Rattle.bits.specs.Outcomes.{refuses}
-use Rattle.isa.specs.declared.answer.Refusal.{Refusal}
-use Rattle.isa.specs.Reader.{read}
-use Rattle.isa.specs.Registers.{reads}
+use Rattle.record.specs.declared.answer.Refusal.{Refusal}
+use Rattle.reader.specs.Reader.{read}
+use Rattle.record.specs.Registers.{reads}
 use Rattle.container.specs.Container.{count-of, words-of, eight}
 use Rattle.container.specs.Opening.{open-outcome}
 use Rattle.verifier.specs.declared.verdict.Finding.{Finding}
-use Rattle.verifier.specs.Walks.{Inside}
+use Rattle.walks.specs.Walks.{Inside}
 use Rattle.verifier.specs.Program.{Program, register-count, successors, after, program-of}
 use Rattle.verifier.specs.Verdict.{finding, no-register}
 

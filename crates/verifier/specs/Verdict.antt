@@ -1,17 +1,15 @@
 -- The verdict (the paper's check), in the order of paper 01: "Checking: opening; then the lowest unreadable word with its number; then 23;
 -- then by instruction 20, and for the fall-through then the branch target 21, 22."
-use mathlib.Core.Path.{_≡_}
 use mathlib.Core.List.{List, [], _∷_}
 use Prim.Native.Nat.{ℕ, zero, suc}
 use lib.Dec.{eqb, ltb}
 use lib.IntN.{ℤ, pos, negsuc}
 use Rattle.bits.specs.Sets.{minus, lowest}
 use Rattle.bits.specs.Outcomes.{Outcome, gives, refuses, passes, require, _then_}
-use Rattle.isa.specs.declared.instruction.Instruction.{Instruction}
-use Rattle.isa.specs.declared.answer.Refusal.{Refusal}
-use Rattle.isa.specs.declared.registers.Effect.{Effect}
-use Rattle.isa.specs.Reader.{read}
-use Rattle.isa.specs.Registers.{reads, Does}
+use Rattle.record.specs.declared.instruction.Instruction.{Instruction}
+use Rattle.record.specs.declared.answer.Refusal.{Refusal}
+use Rattle.reader.specs.Reader.{read}
+use Rattle.record.specs.Registers.{reads}
 use Rattle.container.specs.declared.header.Header.{Header}
 use Rattle.container.specs.Container.{count-of, words-of, eight}
 use Rattle.container.specs.Opening.{open-outcome}
@@ -71,13 +69,13 @@ judge-successor n annotation i held (negsuc _) = refuses (finding 21 0 i no-regi
 
 -- instruction i, which is x: "The check takes note i as what is held before instruction i."; "20: an instruction reads a register its note
 -- lacks"
-unfoldable pub judge-instruction : ℕ → (ℕ → ℕ) → ℕ → Instruction → Judgement
-judge-instruction n annotation i x =
+unfoldable pub judge-flow : ℕ → (ℕ → ℕ) → ℕ → Instruction → Judgement
+judge-flow n annotation i x =
     none-missing 20 i (reads x) (annotation i)
     then each (judge-successor n annotation i (after x (annotation i))) (successors x i)
 
 abbrev pub judge-index : Program → ℕ → Judgement
-judge-index p i = judge-instruction (p .count) (p .annotation) i (p .instruction i)
+judge-index p i = judge-flow (p .count) (p .annotation) i (p .instruction i)
 
 -- "23: note 0 names a register outside the entry set"; then instruction by instruction
 unfoldable pub judge-program : Program → Judgement
@@ -89,13 +87,3 @@ verdict-of s =
     judge-opening (open-outcome s)
     then first (judge-word (words-of s)) (count-of s)
     then judge-program (program-of s)
-
--- whatever instruction i is, if the effect says what it does, it is not refused
-abbrev pub Sound : ℕ → (ℕ → ℕ) → ℕ → Effect → Type 0
-Sound n annotation i e = (x : Instruction) → Does e x → judge-instruction n annotation i x ≡ passes
-
--- the word at index i reads, and its instruction is not refused
-pub record PassesAt (words annotations : List ℕ) (n i : ℕ) : Type 0 where
-  pub instruction : Instruction
-  pub told : read (eight words i) ≡ gives instruction
-  pub judged : judge-instruction n (annotation-at annotations) i instruction ≡ passes

@@ -2,7 +2,7 @@
 use bits::sets::lowest;
 use bits::sets::missing;
 ghost use mathlib.Core.Path.{_≡_};
-ghost use Rattle.bits.specs.Outcomes.{refuses, _then_};
+ghost use Rattle.bits.specs.Outcomes.{refuses};
 ghost use Rattle.verifier.specs.Verdict.{finding, verdict-outcome, none-missing};
 
 // The register of a finding where none is at fault.
@@ -32,16 +32,6 @@ pub fn refused(number: u8, place: u8, index: usize, register: u32) -> Verdict
         index,
         register,
     })
-}
-
-// The first refusal of two.
-pub fn first_of(a: Verdict, b: Verdict) -> Verdict
-    ensures { λ r. ⌜ verdict-outcome r ≡ (verdict-outcome a then verdict-outcome b) ⌝ }
-{
-    match a {
-        Verdict::Accepted => b,
-        Verdict::Refused(f) => Verdict::Refused(f),
-    }
 }
 
 // Refused with `number` at instruction `index` where a register of `named` is missing from `held`.

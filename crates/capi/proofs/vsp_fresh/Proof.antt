@@ -1,6 +1,6 @@
 use denote.Ref.{now}
 use mathlib.Core.Path.{sym, ap, _∙_}
-use Rattle.isa.specs.Answers.{making}
+use Rattle.record.specs.Answers.{making}
 use Rattle.capi.proofs.AnswerLaws.{made, declined}
 use borrow.Author.Needs.{needs}
 use Rattle.capi.proofs.vsp_fresh.Statement.{statement}

@@ -1,6 +1,6 @@
 use denote.Ref.{now}
 use mathlib.Core.Path.{sym, ap, _∙_}
-use Rattle.isa.specs.Answers.{reading}
+use Rattle.reader.specs.Answers.{reading}
 use Rattle.capi.proofs.AnswerLaws.{made, declined}
 use borrow.Author.Needs.{needs}
 use Rattle.capi.proofs.vsp_read.Statement.{statement}

@@ -2,9 +2,9 @@ use mathlib.Core.Path.{sym, ap, _∙_, subst}
 use Prim.Native.Nat.{ℕ, _<_, _≤_}
 use denote.Ref.{now}
 use Rattle.rows.specs.Rows.{row-count}
-use Rattle.isa.specs.Answers.{writing}
-use Rattle.isa.specs.Writer.{write, stored}
-use Rattle.isa.specs.declared.instruction.Instruction.{Instruction}
+use Rattle.writer.specs.Answers.{writing}
+use Rattle.writer.specs.Writer.{write, stored}
+use Rattle.record.specs.declared.instruction.Instruction.{Instruction}
 use Rattle.capi.proofs.AnswerLaws.{wrong-buffer, no-row, not-0, done, unwritten}
 use borrow.Author.Needs.{needs}
 use Rattle.capi.proofs.vsp_write.Statement.{statement}
@@ -28,8 +28,8 @@ padded-requires c κs = search needs
 returns-3 : tie.Need-returns-3
 returns-3 c = not-0 (now (c .before .before .before .before .before .before .before .args .form)) (now (c .before .before .before .before .before .before .before .args .word)) (c .before .before .before .before .before .if1 .left) (subst (λ (x : ℕ). x < row-count) (c .before .before .before .wide .ensures .0) (c .before .before .if2 .left)) (sym (c .before .padded .ensures) ∙ c .if3 .taken)
 
-instruction-in-requires : tie.Need-instruction-in-requires
-instruction-in-requires c κs = search needs
+instruction-of-form-requires : tie.Need-instruction-of-form-requires
+instruction-of-form-requires c κs = search needs
 
 write-word-requires : tie.Need-write-word-requires
 write-word-requires c κs = search needs
@@ -47,13 +47,13 @@ same-length : tie.Need-same-length
 same-length c = search needs
 
 returns-4 : tie.Need-returns-4
-returns-4 c = done (now (c .before .before .before .before .before .before .before .before .before .before .before .before .before .before .args .form)) (now (c .before .before .before .before .before .before .before .before .before .before .before .before .before .before .args .word)) (c .before .before .before .before .before .before .before .before .before .before .before .before .if1 .left) (subst (λ (x : ℕ). x < row-count) (c .before .before .before .before .before .before .before .before .before .before .wide .ensures .0) (c .before .before .before .before .before .before .before .before .before .if2 .left)) (sym (c .before .before .before .before .before .before .before .before .padded .ensures) ∙ c .before .before .before .before .before .before .before .if3 .left) (ap writing (sym (c .enum-told .given .1)) ∙ c .before .before .before .before .write-word .ensures .0 ∙ ap (λ (i : Instruction). write i (now (c .before .before .before .before .before .before .before .before .before .before .before .before .before .before .args .word))) (c .before .before .before .before .before .before .instruction-in .ensures)) (c .before .before .before .before .write-word .ensures .1 .0 ∙ ap (λ (i : Instruction). stored i (now (c .before .before .before .before .before .before .before .before .before .before .before .before .before .before .args .word))) (c .before .before .before .before .before .before .instruction-in .ensures))
+returns-4 c = done (now (c .before .before .before .before .before .before .before .before .before .before .before .before .before .before .args .form)) (now (c .before .before .before .before .before .before .before .before .before .before .before .before .before .before .args .word)) (c .before .before .before .before .before .before .before .before .before .before .before .before .if1 .left) (subst (λ (x : ℕ). x < row-count) (c .before .before .before .before .before .before .before .before .before .before .wide .ensures .0) (c .before .before .before .before .before .before .before .before .before .if2 .left)) (sym (c .before .before .before .before .before .before .before .before .padded .ensures) ∙ c .before .before .before .before .before .before .before .if3 .left) (ap writing (sym (c .enum-told .given .1)) ∙ c .before .before .before .before .write-word .ensures .0 ∙ ap (λ (i : Instruction). write i (now (c .before .before .before .before .before .before .before .before .before .before .before .before .before .before .args .word))) (c .before .before .before .before .before .before .instruction-of-form .ensures)) (c .before .before .before .before .write-word .ensures .1 .0 ∙ ap (λ (i : Instruction). stored i (now (c .before .before .before .before .before .before .before .before .before .before .before .before .before .before .args .word))) (c .before .before .before .before .before .before .instruction-of-form .ensures))
 
 same-length-2 : tie.Need-same-length-2
 same-length-2 c = search needs
 
 returns-5 : tie.Need-returns-5
-returns-5 c = unwritten (now (c .before .before .before .before .before .before .before .before .before .before .before .before .before .before .before .before .args .form)) (now (c .before .before .before .before .before .before .before .before .before .before .before .before .before .before .before .before .args .word)) (c .before .before .before .before .before .before .before .before .before .before .before .before .before .before .if1 .left) (subst (λ (x : ℕ). x < row-count) (c .before .before .before .before .before .before .before .before .before .before .before .before .wide .ensures .0) (c .before .before .before .before .before .before .before .before .before .before .before .if2 .left)) (sym (c .before .before .before .before .before .before .before .before .before .before .padded .ensures) ∙ c .before .before .before .before .before .before .before .before .before .if3 .left) (ap writing (sym (c .before .before .w .given .1)) ∙ c .before .before .before .before .before .before .write-word .ensures .0 ∙ ap (λ (i : Instruction). write i (now (c .before .before .before .before .before .before .before .before .before .before .before .before .before .before .before .before .args .word))) (c .before .before .before .before .before .before .before .before .instruction-in .ensures)) (c .refusal-code .ensures) (c .before .before .before .before .before .before .write-word .ensures .1 .0 ∙ ap (λ (i : Instruction). stored i (now (c .before .before .before .before .before .before .before .before .before .before .before .before .before .before .before .before .args .word))) (c .before .before .before .before .before .before .before .before .instruction-in .ensures))
+returns-5 c = unwritten (now (c .before .before .before .before .before .before .before .before .before .before .before .before .before .before .before .before .args .form)) (now (c .before .before .before .before .before .before .before .before .before .before .before .before .before .before .before .before .args .word)) (c .before .before .before .before .before .before .before .before .before .before .before .before .before .before .if1 .left) (subst (λ (x : ℕ). x < row-count) (c .before .before .before .before .before .before .before .before .before .before .before .before .wide .ensures .0) (c .before .before .before .before .before .before .before .before .before .before .before .if2 .left)) (sym (c .before .before .before .before .before .before .before .before .before .before .padded .ensures) ∙ c .before .before .before .before .before .before .before .before .before .if3 .left) (ap writing (sym (c .before .before .w .given .1)) ∙ c .before .before .before .before .before .before .write-word .ensures .0 ∙ ap (λ (i : Instruction). write i (now (c .before .before .before .before .before .before .before .before .before .before .before .before .before .before .before .before .args .word))) (c .before .before .before .before .before .before .before .before .instruction-of-form .ensures)) (c .refusal-code .ensures) (c .before .before .before .before .before .before .write-word .ensures .1 .0 ∙ ap (λ (i : Instruction). stored i (now (c .before .before .before .before .before .before .before .before .before .before .before .before .before .before .before .before .args .word))) (c .before .before .before .before .before .before .before .before .instruction-of-form .ensures))
 
 pub vsp-write-spec : {M : Type 1} → statement M
 vsp-write-spec =
@@ -65,7 +65,7 @@ vsp-write-spec =
     returns-2
     padded-requires
     returns-3
-    instruction-in-requires
+    instruction-of-form-requires
     write-word-requires
     enum-told
     enum-known-w

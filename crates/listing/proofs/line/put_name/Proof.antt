@@ -7,9 +7,9 @@ use native.Mathlib.Omega.{arith}
 use lib.ListN.{length, take, drop, set, length-set}
 use denote.Ref.{now}
 use borrow.Author.Needs.{needs}
-use Rattle.rows.specs.Names.{name-of, name-width, padded, before-space}
+use Rattle.rows.specs.Names.{name-of, name-width, filled, before-space}
 use Rattle.rows.proofs.NameLaws.{space-here, no-space, space-end}
-use Rattle.listing.proofs.LineLaws.{length-padded, name-byte, copied, name-put, no-name-put}
+use Rattle.listing.proofs.LineLaws.{length-filled, name-byte, copied, name-put, no-name-put}
 use Rattle.listing.proofs.line.put_name.Statement.{statement}
 use Rattle.listing.proofs.line.put_name.Tie as tie
 
@@ -17,8 +17,8 @@ abbrev Inv-loop : tie.InvT-loop
 Inv-loop names row out₀ n₀ out n =
     (n ≤ name-width)
     × (length out ≡ length out₀)
-    × (n + before-space (drop n (padded (name-of row))) ≡ before-space (padded (name-of row)))
-    × (out ≡ take n (padded (name-of row)) ++ drop n out₀)
+    × (n + before-space (drop n (filled (name-of row))) ≡ before-space (filled (name-of row)))
+    × (out ≡ take n (filled (name-of row)) ++ drop n out₀)
 
 abbrev μ-loop : tie.MeasureT-loop
 μ-loop names row out₀ n₀ out n = name-width - n
@@ -47,7 +47,7 @@ returns-2 c =
     let l = c .before .before .before .loop in
     let h = c .before .before .before .before .if1 .left in
     let b = name-byte (now (a .names)) (a .row) (l .n) h (c .before .before .before .before .before .pre .0) in
-    let z = space-here (padded (name-of (a .row))) (l .n) (omega (arith, length-padded (a .row))) (sym b ∙ c .if2 .taken) in
+    let z = space-here (filled (name-of (a .row))) (l .n) (omega (arith, length-filled (a .row))) (sym b ∙ c .if2 .taken) in
     (name-put (a .row) (now (a .out)) h (omega (arith, z, l .inv .2)) (l .inv .3), l .inv .0)
 
 slice-write-out : tie.Need-slice-write-out Inv-loop μ-loop
@@ -64,8 +64,8 @@ loop-again c =
     let a = c .before .before .before .before .before .args in
     let l = c .before .before .before .loop in
     let h = c .before .before .before .before .if1 .left in
-    let name = padded (name-of (a .row)) in
-    let within : l .n < length name = omega (arith, length-padded (a .row)) in
+    let name = filled (name-of (a .row)) in
+    let within : l .n < length name = omega (arith, length-filled (a .row)) in
     let b = name-byte (now (a .names)) (a .row) (l .n) h (c .before .before .before .before .before .pre .0) in
     let e : before-space (drop (l .n) name) ≡ suc (before-space (drop (l .n + 1) name)) = rw (add-one (l .n)) (no-space name (l .n) within (λ q. c .if2 .left (b ∙ q))) in (
       omega arith,
@@ -81,7 +81,7 @@ returns-3 : tie.Need-returns-3 Inv-loop μ-loop
 returns-3 c =
     let a = c .before .before .before .args in
     let l = c .before .loop in
-    let z = space-end (padded (name-of (a .row))) (l .n) (omega (arith, length-padded (a .row))) in
+    let z = space-end (filled (name-of (a .row))) (l .n) (omega (arith, length-filled (a .row))) in
     (name-put (a .row) (now (a .out)) (c .before .before .if1 .left) (omega (arith, z, l .inv .2)) (l .inv .3), l .inv .0)
 
 pub put-name-spec : {M : Type 1} → statement M

@@ -1,8 +1,8 @@
 use mathlib.Core.Path.{sym, ap}
 use mathlib.Core.List.{_∷_}
 use native.Mathlib.Omega.{arith}
-use Rattle.isa.specs.declared.answer.Reading.{Reading}
-use Rattle.isa.specs.Answers.{reading}
+use Rattle.reader.specs.declared.answer.Reading.{Reading}
+use Rattle.reader.specs.Answers.{reading}
 use Rattle.listing.specs.Text.{space}
 use Rattle.listing.specs.Listing.{name-in}
 use Rattle.listing.proofs.TextLaws.{put-next, same-text}

@@ -3,7 +3,7 @@ use mathlib.Core.List.{List, []}
 use Prim.Native.Nat.{ℕ}
 use lib.ListN.{getD, length}
 use Rattle.rows.specs.Rows.{Row}
-use Rattle.rows.specs.Names.{ascii, padded, name}
+use Rattle.rows.specs.Names.{ascii, filled, name}
 use Rattle.rows.proofs.NameLaws.{name-in, name-there, no-name}
 use borrow.Author.Needs.{needs}
 use Rattle.rows.proofs.names.of_row.Statement.{statement}
@@ -11,7 +11,7 @@ use Rattle.rows.proofs.names.of_row.Tie as tie
 
 returns : tie.Need-returns
 unfolding name ascii
-returns c = sym (ap (λ (r : Row). record { bytes = padded (ascii (r .name)); len = length (ascii (r .name)) }) (no-name (c .before .args .row) (c .if1 .taken)))
+returns c = sym (ap (λ (r : Row). record { bytes = filled (ascii (r .name)); len = length (ascii (r .name)) }) (no-name (c .before .args .row) (c .if1 .taken)))
 
 all-requires : tie.Need-all-requires
 all-requires c κs = search needs

@@ -4,19 +4,23 @@ use Rattle.verifier.specs.Program.{after}
 use borrow.Author.Needs.{needs}
 use Rattle.verifier.proofs.flow.after.Statement.{statement}
 use Rattle.verifier.proofs.flow.after.Tie as tie
+use Rattle.verifier.proofs.flow.after.Reads as reads
+use Rattle.verifier.proofs.flow.after.Lts as lts
+use Rattle.bits.proofs.sets.missing.Reads as missing-reads
+use Rattle.record.proofs.instruction.Instruction.defines.Reads as defines-reads
 
-kills-requires : tie.Need-kills-requires
-kills-requires c κs = search needs
-
+-- src/flow.rt:29:5
 missing-requires : tie.Need-missing-requires
 missing-requires c κs = search needs
 
+-- src/flow.rt:29:28
 defines-requires : tie.Need-defines-requires
 defines-requires c κs = search needs
 
+-- src/flow.rt:25:1
 returns : tie.Need-returns
 unfolding after
-returns c = ap₂ union (c .before .missing .ensures ∙ ap (minus (c .before .before .before .args .held)) (c .before .before .kills .ensures)) (c .defines .ensures)
+returns c = ap₂ union (c .before .missing .ensures ∙ ap (minus (c .before .before .args .held)) (c .before .before .pre)) (c .defines .ensures)
 
 pub after-spec : {M : Type 1} → statement M
-after-spec = tie.close (tie.spec kills-requires missing-requires defines-requires returns)
+after-spec = tie.close (tie.spec missing-requires defines-requires returns)

@@ -1,4 +1,4 @@
-use mathlib.Core.Path.{_≡_, sym, ap, ap₂, _∙_}
+use mathlib.Core.Path.{_≡_, refl, sym, ap, ap₂, _∙_}
 use Prim.Native.Nat.{ℕ, _+_}
 use borrow.Author.Tests.{not-true, not-false}
 use denote.Ref.{now}
@@ -8,7 +8,7 @@ use mir.Val.{toZ, ofZ}
 use Rattle.verifier.specs.Program.{landing, after, annotation-at}
 use Rattle.verifier.specs.Verdict.{judge-successor}
 use Rattle.verifier.proofs.VerdictLaws.{lands-same}
-use Rattle.verifier.proofs.PassLaws.{at-end, at-next, at-branch}
+use Rattle.verifier.proofs.PassLaws.{followed, halted, at-end, at-next, at-branch}
 use borrow.Author.Needs.{needs}
 use Rattle.verifier.proofs.flow.judge_successors.Statement.{statement}
 use Rattle.verifier.proofs.flow.judge_successors.Tie as tie
@@ -24,7 +24,7 @@ returns c =
     at-end (judge-successor (a .n) m (a .i) h) (a .x) (a .i) (sym (c .before .ends .ensures) ∙ c .if1 .taken)
 
 after-requires : tie.Need-after-requires
-after-requires c κs = search needs
+after-requires c κs = c .before .before .before .pre .2
 
 add-judge-successor : tie.Need-add-judge-successor
 add-judge-successor c = search needs
@@ -43,29 +43,46 @@ returns-2 c =
     at-next (judge-successor (a .n) m (a .i) h) (a .x) (a .i) (sym (c .before .before .before .before .before .ends .ensures) ∙ c .before .before .before .before .if1 .left) (c .before .before .judge-successor .ensures ∙ ap (λ (k : ℕ). judge-successor (a .n) m (a .i) k (pos (a .i + 1))) (c .before .before .before .after .ensures))
     (sym (c .before .branches .ensures) ∙ not-true _ (c .if2 .taken))
 
+enum-told : tie.Need-enum-told
+enum-told c = search needs
+
 branch-target-requires : tie.Need-branch-target-requires
 branch-target-requires c κs = search needs
 
 judge-successor-requires-2 : tie.Need-judge-successor-requires-2
 judge-successor-requires-2 c κs = search needs
 
-first-of-requires : tie.Need-first-of-requires
-first-of-requires c κs = search needs
+enum-known-next : tie.Need-enum-known-next
+enum-known-next c = search needs
 
 returns-3 : tie.Need-returns-3
 returns-3 c =
-    let a = c .before .before .before .before .before .before .before .before .before .before .before .args in
+    let a = c .before .before .before .before .before .before .before .before .before .before .before .before .args in
     let m = annotation-at (now (a .annotations)) in
     let h = after (a .x) (a .before) in
     let back : toZ w32 (ofZ w32 (a .x .offset)) ≡ a .x .offset = search needs in
     let z = pos (a .i + 1) +ℤ a .x .offset in
-    let j : c .before .before .branch-target .result ≡ landing (a .n) z =
-    c .before .before .branch-target .ensures ∙ ap (λ (y : ℤ). landing (a .n) (pos (a .i + 1) +ℤ y)) back in
-    let t = c .before .judge-successor2 .ensures ∙ ap₂ (λ (k l : ℕ). judge-successor (a .n) m (a .i) k (pos l)) (c .before .before .before .before .before .before .before .after .ensures) j
+    let j : c .before .branch-target .result ≡ landing (a .n) z =
+    c .before .branch-target .ensures ∙ ap (λ (y : ℤ). landing (a .n) (pos (a .i + 1) +ℤ y)) back in
+    let t = c .judge-successor2 .ensures ∙ ap₂ (λ (k l : ℕ). judge-successor (a .n) m (a .i) k (pos l)) (c .before .before .before .before .before .before .before .before .after .ensures) j
     ∙ lands-same (a .n) m (a .i) h z in
-    c .first-of .ensures
-    ∙ at-branch (judge-successor (a .n) m (a .i) h) (a .x) (a .i) (sym (c .before .before .before .before .before .before .before .before .before .ends .ensures) ∙ c .before .before .before .before .before .before .before .before .if1 .left) (c .before .before .before .before .before .before .judge-successor .ensures ∙ ap (λ (k : ℕ). judge-successor (a .n) m (a .i) k (pos (a .i + 1))) (c .before .before .before .before .before .before .before .after .ensures))
-    (sym (c .before .before .before .before .before .branches .ensures) ∙ not-false _ (c .before .before .before .before .if2 .left)) t
+    followed (c .before .before .before .enum-told .given .1) refl refl
+    ∙ at-branch (judge-successor (a .n) m (a .i) h) (a .x) (a .i) (sym (c .before .before .before .before .before .before .before .before .before .before .ends .ensures) ∙ c .before .before .before .before .before .before .before .before .before .if1 .left)
+    (c .before .before .before .before .before .before .before .judge-successor .ensures ∙ ap (λ (k : ℕ). judge-successor (a .n) m (a .i) k (pos (a .i + 1))) (c .before .before .before .before .before .before .before .before .after .ensures))
+    (sym (c .before .before .before .before .before .before .branches .ensures) ∙ not-false _ (c .before .before .before .before .before .if2 .left))
+    t
+
+returns-4 : tie.Need-returns-4
+returns-4 c =
+    let a = c .before .before .before .before .before .before .before .before .before .before .args in
+    let m = annotation-at (now (a .annotations)) in
+    let h = after (a .x) (a .before) in
+    let z = pos (a .i + 1) +ℤ a .x .offset in
+    halted (judge-successor (a .n) m (a .i) h z) (c .before .next .given .1) refl
+    ∙ at-branch (judge-successor (a .n) m (a .i) h) (a .x) (a .i) (sym (c .before .before .before .before .before .before .before .before .ends .ensures) ∙ c .before .before .before .before .before .before .before .if1 .left)
+    (c .before .before .before .before .before .judge-successor .ensures ∙ ap (λ (k : ℕ). judge-successor (a .n) m (a .i) k (pos (a .i + 1))) (c .before .before .before .before .before .before .after .ensures))
+    (sym (c .before .before .before .before .branches .ensures) ∙ not-false _ (c .before .before .before .if2 .left))
+    refl
 
 pub judge-successors-spec : {M : Type 1} → statement M
 judge-successors-spec =
@@ -78,7 +95,9 @@ judge-successors-spec =
     judge-successor-requires
     branches-requires
     returns-2
+    enum-told
     branch-target-requires
     judge-successor-requires-2
-    first-of-requires
-    returns-3)
+    enum-known-next
+    returns-3
+    returns-4)

@@ -1,104 +1,64 @@
+use mathlib.Core.Path.{_≡_, refl, ap, _∙_}
+use Prim.Native.Nat.{ℕ}
 use denote.Ref.{now}
-use Rattle.isa.specs.Answers.{reading}
-use mathlib.Core.Logic.{⊎-elim}
-use mathlib.Core.Path.{sym, ap, _∙_}
-use Prim.Native.Nat.{ℕ, _-_, _≤_}
-use native.Mathlib.Omega.{arith}
-use borrow.Author.Tests.{not-false}
+use Rattle.verifier.specs.Verdict.{verdict-outcome, first, none-missing}
+use Rattle.verifier.proofs.PassLaws.{entered, barred}
 use borrow.Author.Needs.{needs}
-use Rattle.verifier.specs.Verdict.{verdict-outcome, none-missing}
-use Rattle.verifier.proofs.PassLaws.{Kept, starts, turns, skips, stops, ends-at}
 use Rattle.verifier.proofs.program.judge_words.Statement.{statement}
 use Rattle.verifier.proofs.program.judge_words.Tie as tie
+use Rattle.verifier.proofs.program.judge_words.Reads as reads
+use Rattle.verifier.proofs.program.judge_words.Lts as lts
+use Rattle.verifier.proofs.flow.annotation_at.Reads as annotation-at-reads
+use Rattle.verifier.proofs.program.judge_instructions.Reads as judge-instructions-reads
+use Rattle.verifier.proofs.program.unreadable_from.Reads as unreadable-from-reads
+use Rattle.verifier.proofs.verdict.none_missing.Reads as none-missing-reads
 
-abbrev Inv-loop : tie.InvT-loop
-Inv-loop words annotations n entry kept₀ i₀ kept i = (i ≤ n) × Kept words annotations n entry (verdict-outcome kept₀) i (verdict-outcome kept)
-
-abbrev μ-loop : tie.MeasureT-loop
-μ-loop words annotations n entry kept₀ i₀ kept i = n - i
-
-annotation-at-requires : tie.Need-annotation-at-requires Inv-loop μ-loop
+-- src/program.rt:91:44
+annotation-at-requires : tie.Need-annotation-at-requires
 annotation-at-requires c κs = search needs
 
-none-missing-requires : tie.Need-none-missing-requires Inv-loop μ-loop
+-- src/program.rt:91:9
+none-missing-requires : tie.Need-none-missing-requires
 none-missing-requires c κs = search needs
 
-loop-holds : tie.Need-loop-holds Inv-loop μ-loop
-loop-holds c = let a = c .before .before .before .before .args in (omega arith, starts (now (a .words)) (now (a .annotations)) (a .n) (a .entry) (verdict-outcome (c .none-missing .result)))
+-- src/program.rt:93:30
+enum-told : tie.Need-enum-told
+enum-told c = search needs
 
-passes-at-requires : tie.Need-passes-at-requires Inv-loop μ-loop
-passes-at-requires c κs = search needs
+-- src/program.rt:93:30
+judge-instructions-requires : tie.Need-judge-instructions-requires
+judge-instructions-requires c κs = search needs
 
-reading-at-requires : tie.Need-reading-at-requires Inv-loop μ-loop
-reading-at-requires c κs = search needs
+-- src/program.rt:94:26
+enum-known-v : tie.Need-enum-known-v
+enum-known-v c = search needs
 
-enum-known-r : tie.Need-enum-known-r Inv-loop μ-loop
-enum-known-r c = search needs
+-- src/program.rt:94:32
+unreadable-from-requires : tie.Need-unreadable-from-requires
+unfolding first
+unreadable-from-requires c κs = (c .before .before .before .before .before .before .before .pre .0, search needs, refl)
 
-settle-requires : tie.Need-settle-requires Inv-loop μ-loop
-settle-requires c κs = search needs
-
-enum-known-r-2 : tie.Need-enum-known-r-2 Inv-loop μ-loop
-enum-known-r-2 c = search needs
-
-refused-requires : tie.Need-refused-requires Inv-loop μ-loop
-refused-requires c κs = search needs
-
-returns : tie.Need-returns Inv-loop μ-loop
+-- src/program.rt:82:1
+returns : tie.Need-returns
 returns c =
-    let a = c .before .before .before .before .before .before .before .before .before .before .before .before .before .args in
-    let w = now (a .words) in
-    let m = now (a .annotations) in
-    let hv = c .before .before .before .before .before .before .before .before .before .none-missing .ensures ∙ ap (λ (x : ℕ). none-missing 23 0 x (a .entry)) (c .before .before .before .before .before .before .before .before .before .before .annotation-at .ensures) in
-    let l = c .before .before .before .before .before .before .before .before .loop in
-    stops w m (a .n) (a .entry) _ (l .inv .1) hv (c .before .before .before .before .before .before .before .loop-test .taken)
-    (ap reading (sym (c .before .before .r2 .given .1)) ∙ c .before .before .before .before .reading-at .ensures) (c .refused .ensures)
+    let a = c .before .before .before .before .before .before .before .args in
+    entered (now (a .words)) (now (a .annotations)) (a .n) (a .entry) (c .before .before .before .none-missing .ensures ∙ ap (λ (x : ℕ). none-missing 23 0 x (c .before .before .before .before .before .before .before .args .entry)) (c .before .before .before .before .annotation-at .ensures)) (ap verdict-outcome (c .before .enum-told .given .1)) (c .judge-instructions .ensures)
 
-add-i : tie.Need-add-i Inv-loop μ-loop
-add-i c = search needs
-
-loop-less : tie.Need-loop-less Inv-loop μ-loop
-loop-less c = search needs
-
-loop-again : tie.Need-loop-again Inv-loop μ-loop
-loop-again c =
-    let a = c .before .before .before .before .before .before .before .before .args in
-    let w = now (a .words) in
-    let m = now (a .annotations) in
-    let l = c .before .before .before .loop in (
-      search needs,
-      ⊎-elim
-          (λ p. turns w m (a .n) (a .entry) _ (l .inv .1) (ap reading (sym (p .3 .given .1)) ∙ p .1 .ensures) (ap verdict-outcome (p .6) ∙ p .5 .ensures))
-          (λ p. skips w m (a .n) (a .entry) _ (l .inv .1) (ap verdict-outcome (p .1)) (c .before .passes-at .ensures (not-false _ (p .0 .left))))
-          (c .if1 .came),
-    )
-
-returns-2 : tie.Need-returns-2 Inv-loop μ-loop
+-- src/program.rt:82:1
+returns-2 : tie.Need-returns-2
 returns-2 c =
-    let a = c .before .before .before .before .before .before .args in
-    let w = now (a .words) in
-    let m = now (a .annotations) in
-    let hv = c .before .before .none-missing .ensures ∙ ap (λ (x : ℕ). none-missing 23 0 x (a .entry)) (c .before .before .before .annotation-at .ensures) in
-    let l = c .before .loop in
-    ends-at w m (a .n) (a .entry) _ (l .inv .1) hv (omega arith)
+    let a = c .before .before .before .before .before .before .before .before .args in
+    barred (now (a .words)) (now (a .annotations)) (a .n) (a .entry) (c .before .before .before .before .none-missing .ensures ∙ ap (λ (x : ℕ). none-missing 23 0 x (c .before .before .before .before .before .before .before .before .args .entry)) (c .before .before .before .before .before .annotation-at .ensures)) (ap verdict-outcome (c .before .before .v .given .1)) (c .unreadable-from .ensures)
 
 pub judge-words-spec : {M : Type 1} → statement M
 judge-words-spec =
     tie.close
     (tie.spec
-    Inv-loop
-    μ-loop
     annotation-at-requires
     none-missing-requires
-    loop-holds
-    passes-at-requires
-    reading-at-requires
-    enum-known-r
-    settle-requires
-    enum-known-r-2
-    refused-requires
+    enum-told
+    judge-instructions-requires
+    enum-known-v
+    unreadable-from-requires
     returns
-    add-i
-    loop-less
-    loop-again
     returns-2)

@@ -1,0 +1,187 @@
+-- What is proved, on one page: every top theorem by name. The types are the statements; the definitions in them stand in the `specs` folders,
+-- in the order that README gives. The calls are those that users have: their contracts stand at the calls, in `src`. Assumes nothing.
+use mathlib.Core.List.{List}
+use Prim.Native.Nat.{ℕ, _<_, _≤_}
+use mathlib.Core.Path.{_≡_}
+use mathlib.Core.Logic.{_≢_, _⊎_}
+use lib.Dec.{T}
+use lib.Pow.{areBytes}
+use Rattle.bits.specs.Outcomes.{Outcome, gives, refuses, passes}
+use Rattle.rows.specs.Rows.{row-count}
+use Rattle.record.specs.declared.answer.Refusal.{Refusal}
+use Rattle.record.specs.declared.instruction.Instruction.{Instruction}
+use Rattle.record.specs.Defaults.{fresh, default-instruction}
+use Rattle.record.proofs.NumberedLaws as record-numbers
+use Rattle.reader.proofs.NumberedLaws as reader-numbers
+use Rattle.record.proofs.instruction.Instruction.fresh as fresh-call
+use Rattle.reader.specs.Reader.{read}
+use Rattle.writer.specs.Writer.{write, stored}
+use Rattle.writer.proofs.RoundTrip as round-trip
+use Rattle.codec.specs.Demand2.{Demand2, LegalRecord}
+use Rattle.codec.specs.Examples.{Hold, examples}
+use Rattle.codec.proofs.read_word as read-call
+use Rattle.codec.proofs.write_word as write-call
+use Rattle.codec.proofs.Demand2Met as demand-2-met
+use Rattle.codec.proofs.ExamplesHold as examples-met
+use Rattle.codec.proofs.Defaulted as defaulted
+use Rattle.container.proofs.header.«open» as open-call
+use Rattle.container.proofs.parts.annotations as annotations-call
+use Rattle.container.proofs.view.word_of as word-call
+use Rattle.container.specs.Opening.{open-outcome}
+use Rattle.container.proofs.NumberedLaws as container-numbers
+use Rattle.verifier.specs.declared.verdict.Finding.{Finding}
+use Rattle.verifier.specs.Verdict.{verdict-of}
+use Rattle.verifier.specs.Reasons.{Reason}
+use Rattle.verifier.specs.Demand3.{Demand3}
+use Rattle.verifier.proofs.verify as check-call
+use Rattle.verifier.proofs.NumberedLaws as verifier-numbers
+use Rattle.verifier.proofs.Demand3 as demand-3-met
+use Rattle.verifier.proofs.ReasonLaws as reasons
+use Rattle.verifier.proofs.LazyChecks as lazy-checks
+use Rattle.listing.specs.Listing.{listing}
+use Rattle.listing.specs.Asked.{ListedAsAsked}
+use Rattle.listing.specs.Cut.{FromTheFront}
+use Rattle.listing.proofs.«write» as list-call
+use Rattle.listing.proofs.AskedLaws as asked
+use Rattle.listing.proofs.CutLaws as cut
+use Rattle.capi.specs.Promises.{ZeroMeansDone, ReadThenWritten, WrittenThenRead, FreshThenWritten}
+use Rattle.capi.proofs.vsp_read as vsp-read-call
+use Rattle.capi.proofs.vsp_write as vsp-write-call
+use Rattle.capi.proofs.vsp_fresh as vsp-fresh-call
+use Rattle.capi.proofs.vsp_check as vsp-check-call
+use Rattle.capi.proofs.PromiseLaws as promises
+
+-- ---- Demand 1: every call ends, with the answer that its contract names, and a refusal writes nothing. A contract's `ensures` equates the
+-- answer and each lent buffer afterwards with a definition, for all that can be handed in; none of these calls has a `requires`.
+module _ {M : Type 1} where
+  -- `codec::read_word`: the answer is `read` of the bytes
+  pub reads : read-call.Statement.statement M
+  reads = read-call.Met.met
+
+  -- `codec::write_word`: the answer is `write` of the instruction and the buffer, which then holds `stored`
+  pub writes : write-call.Statement.statement M
+  writes = write-call.Met.met
+
+  -- `Instruction::fresh`: the answer is `fresh` of the row number
+  pub makes : fresh-call.Statement.statement M
+  makes = fresh-call.Met.met
+
+  -- `container::header::open`: the answer is `open-outcome` of the bytes
+  pub opens : open-call.Statement.statement M
+  opens = open-call.Met.met
+
+  -- `container::parts::annotations`: the part of the bytes that holds the notes
+  pub lends-annotations : annotations-call.Statement.statement M
+  lends-annotations = annotations-call.Met.met
+
+  -- `container::view::word_of`: a word of a parcel, or its refusal
+  pub fetches : word-call.Statement.statement M
+  fetches = word-call.Met.met
+
+  -- `verifier::verify`: the answer is `verdict-of` the bytes
+  pub checks : check-call.Statement.statement M
+  checks = check-call.Met.met
+
+  -- `listing::write`: the buffer holds `listing` of the bytes, or is left alone where it has no room
+  pub lists : list-call.Statement.statement M
+  lists = list-call.Met.met
+
+  -- the functions for C: the answers are the codes of the same answers
+  pub c-reads : vsp-read-call.Statement.statement M
+  c-reads = vsp-read-call.Met.met
+
+  pub c-writes : vsp-write-call.Statement.statement M
+  c-writes = vsp-write-call.Met.met
+
+  pub c-makes : vsp-fresh-call.Statement.statement M
+  c-makes = vsp-fresh-call.Met.met
+
+  pub c-checks : vsp-check-call.Statement.statement M
+  c-checks = vsp-check-call.Met.met
+
+-- the numbers of the refusals are those of the rules: 1 to 7 of reading, 2 to 9 of writing, 2 of making, 10 to 13 of opening, and those of
+-- opening and reading or 20 to 23 of the check
+pub read-refusals : (bs : List ℕ) (f : Refusal) → read bs ≡ refuses f → (1 ≤ f .number) × (f .number ≤ 7)
+read-refusals = reader-numbers.read-numbers
+
+pub write-refusals : (i : Instruction) (buffer : List ℕ) (f : Refusal) → write i buffer ≡ refuses f → (2 ≤ f .number) × (f .number ≤ 9)
+write-refusals = round-trip.write-numbers
+
+pub fresh-refusals : (row : ℕ) (f : Refusal) → fresh row ≡ refuses f → f .number ≡ 2
+fresh-refusals = record-numbers.fresh-numbers
+
+pub open-refusals : (s : List ℕ) (n : ℕ) → open-outcome s ≡ refuses n → (10 ≤ n) × (n ≤ 13)
+open-refusals = container-numbers.open-numbers
+
+pub check-refusals : (s : List ℕ) (f : Finding) → verdict-of s ≡ refuses f
+    → ((1 ≤ f .number) × (f .number ≤ 7)) ⊎ (((10 ≤ f .number) × (f .number ≤ 13)) ⊎ ((20 ≤ f .number) × (f .number ≤ 23)))
+check-refusals = verifier-numbers.verdict-numbers
+
+-- ---- Demand 2: what is read, what is written, and that the two undo one another
+pub demand-2 : Demand2 read write stored
+demand-2 = demand-2-met.demand2
+
+-- refusal 15 is never given
+pub no-15 : (i : Instruction) (buffer : List ℕ) (f : Refusal) → write i buffer ≡ refuses f → f .number ≢ 15
+no-15 = round-trip.no-15
+
+-- a row's default is legal, so it can be written
+pub default-legal : (k : ℕ) → k < row-count → LegalRecord (default-instruction k)
+default-legal = defaulted.default-legal
+
+-- examples A to L of paper 01
+pub examples-hold : Hold examples
+examples-hold = examples-met.examples-hold
+
+-- the demand is not met by a reader that refuses all words, by one that knows one record, nor by a writer that writes nothing
+pub not-by-refusing : (writer : Instruction → List ℕ → Outcome Refusal (Unit {0})) (after : Instruction → List ℕ → List ℕ) (f : List ℕ → Refusal)
+    → ¬ Demand2 (λ (bs : List ℕ). refuses (f bs)) writer after
+not-by-refusing = demand-2-met.refuses-all
+
+pub not-by-one-record : (writer : Instruction → List ℕ → Outcome Refusal (Unit {0})) (after : Instruction → List ℕ → List ℕ)
+    (reader : List ℕ → Outcome Refusal Instruction) (i : Instruction) → ((bs : List ℕ) (j : Instruction) → reader bs ≡ gives j → j ≡ i)
+    → ¬ Demand2 reader writer after
+not-by-one-record = demand-2-met.one-record
+
+pub not-by-writing-nothing : (reader : List ℕ → Outcome Refusal Instruction) (writer : Instruction → List ℕ → Outcome Refusal (Unit {0}))
+    → ¬ Demand2 reader writer (λ (i : Instruction) (bs : List ℕ). bs)
+not-by-writing-nothing = demand-2-met.writes-nothing
+
+-- ---- Demand 3: what is accepted is safe on every walk, and what is safe, reached and exactly annotated is accepted
+pub demand-3 : Demand3 verdict-of
+demand-3 = demand-3-met.demand3
+
+-- what a refusal tells is so
+pub refused-for-a-reason : (s : List ℕ) → T (areBytes s) → {f : Finding} → verdict-of s ≡ refuses f → Reason s f
+refused-for-a-reason = reasons.reason
+
+-- the demand is not met by always accepting, nor by always refusing
+pub not-by-accepting : ¬ Demand3 (λ s. passes)
+not-by-accepting = lazy-checks.always-yes
+
+pub not-by-refusing-all : (f : List ℕ → Finding) → ¬ Demand3 (λ s. refuses (f s))
+not-by-refusing-all = lazy-checks.always-no
+
+-- ---- The listing: of a well-formed parcel a line for each word and then the verdict, else the verdict only; no digit is lost
+pub listed : (s : List ℕ) → T (areBytes s) → ListedAsAsked s (listing s)
+listed = asked.listed-as-asked
+
+-- what the lister reads of a long input is enough
+pub listing-from-the-front : FromTheFront listing
+listing-from-the-front = cut.listing-from-the-front
+
+pub verdict-from-the-front : FromTheFront verdict-of
+verdict-from-the-front = cut.verdict-from-the-front
+
+-- ---- The C header: 0 means done, and forms and words undo one another
+pub zero-means-done : ZeroMeansDone
+zero-means-done = promises.zero-means-done
+
+pub read-then-written : ReadThenWritten
+read-then-written = promises.read-then-written
+
+pub written-then-read : WrittenThenRead
+written-then-read = promises.written-then-read
+
+pub fresh-then-written : FreshThenWritten
+fresh-then-written = promises.fresh-then-written

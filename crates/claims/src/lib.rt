@@ -1,0 +1,1 @@
+// What is proved, in one place: proofs/Claims.antt. No code.

@@ -1,0 +1,13 @@
+use borrow.Author.Tests.{eqb-true}
+use Rattle.reader.proofs.SourceBytes.{low-bytes}
+use Rattle.reader.proofs.judge.all_low.Statement.{statement}
+use Rattle.reader.proofs.judge.all_low.Tie as tie
+use Rattle.reader.proofs.judge.all_low.Reads as reads
+use Rattle.reader.proofs.judge.all_low.Lts as lts
+
+-- src/judge.rt:49:1
+returns : tie.Need-returns
+returns c = λ e j h. low-bytes (c .args .v) (eqb-true _ _ e) j h
+
+pub all-low-spec : {M : Type 1} → statement M
+all-low-spec = tie.close (tie.spec returns)

@@ -1,0 +1,35 @@
+-- The default instruction of a row (the paper's fresh record; paper 01, "The 77 rows", last part): page and flow 0, destination full r0 where
+-- there is one, and of every source and modifier the default of its kind.
+use mathlib.Core.List.{map}
+use Prim.Native.Nat.{ℕ}
+use lib.Dec.{ltb}
+use lib.IntN.{pos}
+use Rattle.bits.specs.Outcomes.{Outcome, gives, require, _then_}
+use Rattle.rows.specs.Kinds.{about}
+use Rattle.rows.specs.Rows.{row-of, row-count}
+use Rattle.rows.specs.Layout.{Place, kind-at, mask-place, source-places, modifier-places}
+use Rattle.record.specs.Answers.{refusal}
+use Rattle.record.specs.Lists.{sources-of, modifiers-of}
+use Rattle.record.specs.declared.instruction.Instruction.{Instruction}
+use Rattle.record.specs.declared.answer.Refusal.{Refusal}
+
+-- what a row's default has at a place
+abbrev pub default-at : ℕ → Place → ℕ
+default-at k p = about (kind-at (row-of k) p) .default
+
+abbrev pub default-instruction : ℕ → Instruction
+default-instruction k =
+    record {
+      row = k;
+      page = 0;
+      flow = 0;
+      register = 0;
+      «half_mask» = default-at k mask-place;
+      sources = sources-of (map (default-at k) source-places);
+      modifiers = modifiers-of (map (default-at k) modifier-places);
+      offset = pos 0;
+    }
+
+-- 2 for a row number past the table's end
+unfoldable pub fresh : ℕ → Outcome Refusal Instruction
+fresh k = require (ltb k row-count) (refusal 2 0) then gives (default-instruction k)

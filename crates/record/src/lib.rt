@@ -1,0 +1,8 @@
+// Decoded instructions: what they hold, what is legal, the default of each row, what they do to registers.
+pub mod answer;
+pub mod fresh;
+pub mod instruction;
+pub mod legality;
+pub mod modifiers;
+pub mod offset;
+pub mod registers;

@@ -1,0 +1,4 @@
+pub mod Walks
+pub mod Sweeps
+pub mod Inference
+pub mod served

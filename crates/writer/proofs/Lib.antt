@@ -1,0 +1,4 @@
+pub mod RoundTrip
+pub mod RoomLaws
+pub mod WordLaws
+pub mod WriterLaws

@@ -1,0 +1,7 @@
+use record::answer::Refusal;
+
+// What writing an instruction gives.
+pub enum Written {
+    Done,
+    Refused(Refusal),
+}
