@@ -1,7 +1,8 @@
 /*
- * Lists a container through the C interface: for each word its index, its digits and its row
- * number or refusal, then the verdict. Of a container that doesn't open, the verdict only.
- * Exit status 0 where it is accepted, 1 where it is refused, 2 where the file can't be read.
+ * Lists a parcel through the C interface: for each word its index, its digits and its row
+ * number or refusal, then the verdict. Of a parcel that doesn't open, the verdict only.
+ * Exit status 0 where it is accepted, 1 where it is refused, 2 where the file can't be read
+ * or standard output can't be written.
  *
  * From the root of the repository, after `rt staticlib capi`:
  *     cc -std=c99 -O2 -Iinclude examples/list.c target/staticlib/libcapi.a -o list
@@ -13,9 +14,9 @@
 #include "vsp.h"
 
 #define HEADER 16
-/* The longest container, and one byte more to tell a file that is too long. */
+/* The longest parcel, and one byte more to tell a file that is too long. */
 #define LONGEST (HEADER + 16 * 2048)
-static uint8_t container[LONGEST + 1];
+static uint8_t parcel[LONGEST + 1];
 
 /* The length of the file's start, or -1. */
 static long load(const char *name)
@@ -23,7 +24,7 @@ static long load(const char *name)
     FILE *file = fopen(name, "rb");
     if (file == NULL)
         return -1;
-    size_t length = fread(container, 1, sizeof container, file);
+    size_t length = fread(parcel, 1, sizeof parcel, file);
     int failed = ferror(file);
     fclose(file);
     return failed ? -1 : (long)length;
@@ -42,7 +43,7 @@ static void list_word(unsigned index, const uint8_t *word)
         printf(" refused %u place %u\n", VSP_NUMBER(answer), VSP_PLACE(answer));
 }
 
-/* Whether the verdict is about the words or annotations of a container that opens. */
+/* Whether the verdict is about the words or notes of a parcel that opens. */
 static int opens(uint64_t verdict)
 {
     unsigned number = VSP_NUMBER(verdict);
@@ -58,6 +59,26 @@ static void print_verdict(uint64_t verdict)
                VSP_INDEX(verdict), VSP_REGISTER_OF(verdict));
 }
 
+/* The listing; the verdict of vsp_check. */
+static uint64_t list_parcel(size_t length)
+{
+    uint64_t verdict = vsp_check(parcel, length);
+    if (opens(verdict)) {
+        unsigned instructions = parcel[6] + 256u * parcel[7];
+        for (unsigned index = 0; index < instructions; index++)
+            list_word(index, parcel + HEADER + VSP_WORD * index);
+    }
+    print_verdict(verdict);
+    return verdict;
+}
+
+/* Whether all that was printed could be written. */
+static int written(void)
+{
+    int failed = ferror(stdout);
+    return fclose(stdout) == 0 && !failed;
+}
+
 int main(int count, char **arguments)
 {
     if (count != 2) {
@@ -69,12 +90,10 @@ int main(int count, char **arguments)
         fprintf(stderr, "list: can't read %s\n", arguments[1]);
         return 2;
     }
-    uint64_t verdict = vsp_check(container, (size_t)length);
-    if (opens(verdict)) {
-        unsigned instructions = container[6] + 256u * container[7];
-        for (unsigned index = 0; index < instructions; index++)
-            list_word(index, container + HEADER + VSP_WORD * index);
+    uint64_t verdict = list_parcel((size_t)length);
+    if (!written()) {
+        fprintf(stderr, "list: can't write standard output\n");
+        return 2;
     }
-    print_verdict(verdict);
     return verdict == 0 ? 0 : 1;
 }

@@ -1,5 +1,10 @@
 /*
- * The C interface of the verified container checker (static library libcapi.a).
+ * The C interface of the verified parcel checker (static library libcapi.a).
+ *
+ * A parcel has the words of a shader program, an entry set (the registers that it says are
+ * filled before the program starts) and notes (for each instruction the registers that it
+ * says are filled when the instruction is reached). A register is held from when it is
+ * filled, by the entry set or by a write of all of it, until it is released.
  *
  * Every function is total: it returns for every input, allocates nothing, keeps no state
  * and touches no memory but the buffers it is given; calls from several threads are fine. A
@@ -8,24 +13,27 @@
  * alignment is asked for.
  *
  * Numbers of refusals; place is 0 but for 6 and 7, and 14 and 15 are never given:
- *    1  the bytes to read as a word aren't 8
- *    2  no row fits the word, or the row number is over 76
- *    3  an unassigned bit is 1
- *    4  reserved flow
- *    5  half mask 0
- *    6  illegal modifier; place is its lowest bit, the lowest such one
- *    7  refused source; place is its index, the lowest such one
- *    8  the buffer for a word isn't 8 bytes
- *    9  a number too large for its field in that row, an offset out of range, a place that
- *       the row doesn't use and that isn't 0, or padding that isn't 0
- *   10  wrong mark
- *   11  wrong version
- *   12  under 16 bytes, or a wrong count or length
+ *    1  a word to read that isn't 8 bytes long
+ *    2  the word is no instruction of the table; or a row above 76
+ *    3  a bit is 1 that the instruction has no use for
+ *    4  the flow is a reserved one
+ *    5  no half of the destination is written
+ *    6  a modifier has an illegal value; place is the modifier's lowest bit, and of several
+ *       such places the lowest
+ *    7  a source is a reserved constant; place is the source's index, and of several the lowest
+ *    8  the room to write a word to isn't 8 bytes long
+ *    9  a form with a value that its row has no room for in the word, with an offset beyond
+ *       its limits, with other than 0 where its row has nothing, or with padding other than 0
+ *   10  the mark isn't VSP
+ *   11  the version isn't 1
+ *   12  cut off within the first 16 bytes; or the count (1 to 2048) or the length (16 bytes,
+ *       and 16 for each instruction) is wrong
  *   13  byte 5 isn't 0
- *   20  an instruction reads a register that its annotation lacks
- *   21  a successor isn't in the program
- *   22  a successor's annotation names a register that isn't defined after the instruction
- *   23  annotation 0 names a register outside the entry set
+ *   20  an instruction reads a register that its note doesn't name
+ *   21  an instruction can go on to a place outside the program
+ *   22  an instruction can go on to one whose note names a register that, by its own
+ *       note, it doesn't leave held
+ *   23  the first note names a register that the entry set doesn't have
  *
  * The form, 32 bytes, of a decoded instruction:
  *    0       row, 0 to 76
@@ -92,24 +100,32 @@ enum {
 #define VSP_REGISTER_OF(verdict) ((unsigned)((uint64_t)(verdict) >> 32 & 0xFF))
 
 /*
- * Opens a container, reads all its words and checks its annotations. Writes nothing.
+ * Opens a parcel, reads all its words and checks its notes. Writes nothing.
  *
- * Gives 0 where the container is accepted: then on every walk from instruction 0 each
- * register that is read was in the entry set or fully written earlier, and not released
- * since, and no walk leaves the program. Otherwise number + 2^8 place + 2^16 index +
- * 2^32 register: the instruction at fault (0 where the container doesn't open; for 21 and
- * 22 the one that has the successor) and the lowest register at fault (64 where none is). The first refusal in this order:
- * 12 (under 16 bytes), 10, 11, 13, 12; the lowest word that doesn't read, with its number,
- * 2 to 7; 23; then by instruction 20, and for the fall-through and then for the branch
- * target 21, 22.
+ * Gives 0 where the parcel is accepted: then, whichever way the program goes, it stays within
+ * its words, and each register that an instruction reads is held: the entry set has it or an
+ * earlier instruction has written all of it, and none has released it since.
+ *
+ * Taken on trust is the entry set, bytes 8 to 15 of the parcel, little-endian, bit r for
+ * register r. It is the parcel's own claim: vsp_check doesn't know what the display fills
+ * before it starts the program. Compare the two. The notes are not taken on trust.
+ *
+ * 0 doesn't mean that the program computes the right thing, nor that it is the approved one.
+ *
+ * Otherwise number + 2^8 place + 2^16 index + 2^32 register: the instruction at fault (0
+ * where the parcel doesn't open; for 21 and 22 the one that goes on) and the lowest register
+ * at fault (64 where none is). The first refusal in this order: 12 for the first 16 bytes,
+ * 10, 11, 13, 12 for count and length; 2 to 7 for the lowest word that isn't legal; 23; then
+ * instruction by instruction 20, and 21 and 22 for the next instruction, then both for the
+ * one that is branched to.
  */
-uint64_t vsp_check(const uint8_t *container, size_t length);
+uint64_t vsp_check(const uint8_t *parcel, size_t length);
 
 /*
  * Reads a word of 8 little-endian bytes.
  *
  * Gives 0 and fills all 32 bytes of the form, or number + 2^8 place and leaves the form as
- * it was. The first refusal in the order 1, 2, 3, 4, 5, 6, 7. Writing the form gives the
+ * it was. Of several refusals the one with the lowest number. Writing the form gives the
  * same word again.
  */
 uint32_t vsp_read(const uint8_t *word, size_t length, uint8_t form[VSP_FORM]);
@@ -123,8 +139,9 @@ uint32_t vsp_read(const uint8_t *word, size_t length, uint8_t form[VSP_FORM]);
 uint32_t vsp_write(const uint8_t form[VSP_FORM], uint8_t *word, size_t length);
 
 /*
- * Makes the fresh instruction of a row: page 0, flow 0, destination full r0 where the row
- * has one, every source r0 plain, 16-bit swizzles the identity (2), mux 1, all else 0.
+ * Makes the fresh instruction of a row, the one to start from. Beside the row's number all of
+ * it is 0 (so each source is a plain read of r0), but for the half mask, 3 where the row has
+ * a destination, the 16-bit swizzles, 2 (the identity), and mux, 1.
  *
  * Gives 0 and fills all 32 bytes of the form, or 2 where the row is over 76 and leaves the
  * form as it was. A fresh instruction can always be written.

@@ -18,7 +18,7 @@ cases = {
     # paper 01, "The lister"
     'example': (example, '0000 7891C10000000002 MOV.i32\nACCEPTED\n'),
     'example-note-0': (parcel([A_END], [[]], [2]), '0000 7891C10000000002 MOV.i32\nREFUSED 20 0000 02\n'),
-    # "Otherwise the verdict only."
+    # a verdict and no lines
     'no-bytes': (b'', 'REFUSED 12 0000 64\n'),
     'fifteen-bytes': (example[:15], 'REFUSED 12 0000 64\n'),
     'wrong-mark': (b'VSQ' + example[3:], 'REFUSED 10 0000 64\n'),
@@ -31,7 +31,7 @@ cases = {
     'largest': (largest, None),
     'longest-names': (longest_names, None),
     'runs-off-at-the-end': (largest[:16 + 8 * 2047] + bytes(8) + largest[16 + 8 * 2048:], None),
-    # longer than any container: "Opening: 12 (short), 10, 11, 13, 12."
+    # longer than any container: a wrong length comes last in opening, so mark, version and byte 5 are told first
     'too-long': (largest + b'\0', 'REFUSED 12 0000 64\n'),
     'far-too-long': (largest + bytes(100000), 'REFUSED 12 0000 64\n'),
     'too-long-wrong-mark': (b'VSQ' + largest[3:] + bytes(100000), 'REFUSED 10 0000 64\n'),

@@ -6,7 +6,8 @@ import sys
 from paper01 import listing
 
 folder = os.path.join(os.path.dirname(os.path.abspath(__file__)), '..', 'samples')
-verdicts = {'approved': 'ACCEPTED', 'unfilled': 'REFUSED 20 0003 05', 'lying': 'REFUSED 22 0002 05', 'stray': 'REFUSED 03 0002 64', 'loop': 'ACCEPTED'}
+verdicts = {'approved': 'ACCEPTED', 'unfilled': 'REFUSED 20 0003 05', 'lying': 'REFUSED 22 0002 05', 'stray': 'REFUSED 03 0002 64', 'loop': 'ACCEPTED',
+            'trusting': 'ACCEPTED'}
 found = {f[:-4] for f in os.listdir(folder) if f.endswith('.vsp')}
 assert found == set(verdicts), found
 for name, verdict in verdicts.items():

@@ -1,4 +1,8 @@
-//! Safe functions over the C interface in `include/vsp.h`.
+//! Safe functions over the C interface in `include/vsp.h`, which says what each promises.
+//!
+//! A parcel has the words of a shader program, an entry set (the registers that it says are
+//! filled before the program starts) and notes (for each instruction the registers that it
+//! says are filled when the instruction is reached).
 //!
 //! ```no_run
 //! let word = 0x0091_C100_0000_0002_u64.to_le_bytes();
@@ -15,7 +19,7 @@ pub const WORD: usize = 8;
 /// The length of the C interface's form of an instruction.
 pub const FORM: usize = 32;
 
-/// The fields of an instruction. Places that its row doesn't use are 0.
+/// The fields of an instruction. What its row has no place for is 0.
 #[derive(Clone, Copy, Debug, Default, PartialEq, Eq)]
 pub struct Form {
     pub row: u8,
@@ -41,23 +45,29 @@ pub struct Refusal {
     pub place: u8,
 }
 
-/// The answer of [`check`].
+/// The answer of [`check`], which says what an accepted parcel is and isn't.
 #[derive(Clone, Copy, Debug, PartialEq, Eq)]
 pub enum Verdict {
     Accepted,
     Refused {
         number: u8,
         place: u8,
-        /// The instruction at fault, 0 where the container doesn't open.
+        /// The instruction at fault, 0 where the parcel doesn't open.
         index: u16,
         /// The lowest register at fault, 64 where none is.
         register: u8,
     },
 }
 
-/// Opens a container, reads all its words and checks its annotations.
-pub fn check(container: &[u8]) -> Verdict {
-    let code = raw::check(container);
+/// Opens a parcel, reads all its words and checks its notes.
+///
+/// In an accepted parcel no instruction reads a register that isn't held, whichever way the
+/// program goes, and no way leaves the program. That holds if the display fills what the entry
+/// set names (bytes 8 to 15, little-endian, bit r for register r): the set is the parcel's own
+/// claim and is taken on trust, so compare it with what the display really fills. Accepted
+/// doesn't mean that the program computes the right thing, nor that it is the approved one.
+pub fn check(parcel: &[u8]) -> Verdict {
+    let code = raw::check(parcel);
     if code == 0 {
         return Verdict::Accepted;
     }

@@ -3,16 +3,16 @@
 use crate::FORM;
 
 unsafe extern "C" {
-    fn vsp_check(container: *const u8, length: usize) -> u64;
+    fn vsp_check(parcel: *const u8, length: usize) -> u64;
     fn vsp_read(word: *const u8, length: usize, form: *mut u8) -> u32;
     fn vsp_write(form: *const u8, word: *mut u8, length: usize) -> u32;
     fn vsp_fresh(row: u64, form: *mut u8) -> u32;
 }
 
 /// 0, or number + 2^8 place + 2^16 index + 2^32 register.
-pub fn check(container: &[u8]) -> u64 {
+pub fn check(parcel: &[u8]) -> u64 {
     // SAFETY: the pointer is good for reading as many bytes as the length says.
-    unsafe { vsp_check(container.as_ptr(), container.len()) }
+    unsafe { vsp_check(parcel.as_ptr(), parcel.len()) }
 }
 
 /// 0, or number + 2^8 place; then the form keeps its bytes.

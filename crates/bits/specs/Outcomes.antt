@@ -1,4 +1,5 @@
--- Demand 1: "every call ends with a record, a word, an opened parcel, a verdict or one numbered refusal from the rules, in their order."
+-- Demand 1: a call gives what it is for, be it the record of a word, the word of a record, an opened parcel or a verdict, or it refuses,
+-- and then with a single number: the one whose turn comes first (01, Numbers given back).
 use mathlib.Core.Bool.{Bool, true, false}
 
 -- what a call ends with: a value, or a refusal. R says what a refusal tells: its number, and with it a place, or more.

@@ -25,7 +25,7 @@ module _ (s : List ℕ) (h : (k : ℕ) → getD s k 0 < 256) where
   wrong-small (successor-lacks i j r l m k n) = let q : i < count-of s = l in omega (arith, few)
 
   reason-small : {f : Finding} → Reason s f → f .index < 65536
-  reason-small (unopened n e) = omega arith
+  reason-small (unopened r e) = omega arith
   reason-small (unreadable i g l e) = omega (arith, few)
   reason-small (wrong f w) = wrong-small w
 

@@ -2,7 +2,7 @@
 use mathlib.Core.Path.{_≡_, refl, sym, ap, _∙_}
 use mathlib.Core.Bool.{Bool, true, false, not}
 use mathlib.Core.List.{List, [], _∷_, _++_}
-use mathlib.Core.Logic.{_↔_, ⊎-elim}
+use mathlib.Core.Logic.{_↔_, inl, inr, ⊎-elim}
 use Prim.Native.Nat.{ℕ, zero, suc, _+_, _*_, _/_, _%_, _<_}
 use native.Mathlib.Omega.{arith}
 use lib.Dec.{eqb, ltb, lit≤}
@@ -23,7 +23,7 @@ use Rattle.record.specs.Lists.{source-list, modifier-list}
 use Rattle.reader.specs.Reader.{read}
 use Rattle.writer.specs.Writer.{heads, write, stored}
 use Rattle.record.specs.Defaults.{fresh, default-instruction}
-use Rattle.record.proofs.NumberedLaws.{Numbered, fresh-numbers}
+use Rattle.record.proofs.NumberedLaws.{Numbered, OfWriting, fresh-numbers}
 use Rattle.reader.proofs.NumberedLaws.{read-numbers}
 use Rattle.writer.proofs.RoundTrip.{write-numbers}
 use Rattle.codec.specs.Demand2.{LegalRecord, Offset}
@@ -31,6 +31,9 @@ use Rattle.codec.proofs.Demand2Met.{demand2}
 use Rattle.codec.proofs.Defaulted.{default-legal}
 use Rattle.verifier.specs.declared.verdict.Finding.{Finding}
 use Rattle.verifier.specs.Verdict.{Judgement, verdict-of}
+use Rattle.verifier.specs.Demand3.{Demand3At}
+use Rattle.verifier.proofs.Demand3.{demand3}
+use Rattle.verifier.proofs.ProgramLaws.{bytes-below}
 use Rattle.verifier.proofs.NumberedLaws.{FromTheRules, verdict-numbers}
 use Rattle.capi.specs.Codes.{verdict-code}
 use Rattle.capi.specs.Form.{half, form-of, pick, instruction-of-form, padded, write-form, word-after}
@@ -41,12 +44,15 @@ use Rattle.capi.proofs.AnswerLaws.{through, kept}
 
 -- 0 means success
 
-form-numbers : (f bs : List ℕ) → Refusals (Numbered 2 9) (write-form f bs)
+form-numbers : (f bs : List ℕ) → Refusals OfWriting (write-form f bs)
 unfolding write-form
 form-numbers f bs =
-    on (Numbered 2 9) (eqb (length bs) 8) (refusal 8 0) (lit≤ tt, lit≤ tt)
-    (on (Numbered 2 9) (ltb (getD f 0 0) row-count) (refusal 2 0) (lit≤ tt, lit≤ tt)
-    (on (Numbered 2 9) (not (padded f)) (refusal 9 0) (lit≤ tt, lit≤ tt) (write-numbers (instruction-of-form f) bs)))
+    on OfWriting (eqb (length bs) 8) (refusal 8 0) (inr (lit≤ tt, lit≤ tt))
+    (on OfWriting (ltb (getD f 0 0) row-count) (refusal 2 0) (inl refl)
+    (on OfWriting (not (padded f)) (refusal 9 0) (inr (lit≤ tt, lit≤ tt)) (write-numbers (instruction-of-form f) bs)))
+
+some : (f : Refusal) → OfWriting f → 0 < f .number
+some f = ⊎-elim (λ n. omega (arith, n)) (λ n. omega (arith, n .0))
 
 zero-tells : {A : Type 0} (o : Outcome Refusal A) → Refusals (λ (f : Refusal). 0 < f .number) o → ZeroTells o
 zero-tells (gives a) h = (λ e. (a, refl), λ g. refl)
@@ -63,9 +69,21 @@ pub zero-means-done : ZeroMeansDone
 zero-means-done =
     record {
       of-read = λ bs. zero-tells (read bs) (weaker (λ (f : Refusal) (n : Numbered 1 7 f). omega (arith, n .0)) (read-numbers bs));
-      of-write = λ f buffer. zero-tells (write-form f buffer) (weaker (λ (f : Refusal) (n : Numbered 2 9 f). omega (arith, n .0)) (form-numbers f buffer));
+      of-write = λ f buffer. zero-tells (write-form f buffer) (weaker some (form-numbers f buffer));
       of-fresh = λ row. zero-tells (fresh row) (weaker (λ (f : Refusal) (n : f .number ≡ 2). omega (arith, n)) (fresh-numbers row));
       of-check = λ s. verdict-zero (verdict-of s) (weaker (λ (f : Finding) (n : FromTheRules (f .number)). no-rule-0 n) (verdict-numbers s));
+    }
+
+-- so demand 3 holds of a check that answers 0 where it accepts
+pub demanded : (s : List ℕ) → ((k : ℕ) → getD s k 0 < 256) → {r : ℕ} → r ≡ verdict-code (verdict-of s) → Demand3At s (r ≡ 0)
+demanded s h {r} e =
+    let d = demand3 s (bytes-below s h) in
+    let z = zero-means-done .of-check s in
+    let accepts : r ≡ 0 → verdict-of s ≡ passes = λ q. z .0 (sym e ∙ q) in
+    record {
+      sound = λ q. d .sound (accepts q);
+      complete = λ f safe reached exact. e ∙ z .1 (d .complete f safe reached exact);
+      goes-on = λ q. d .goes-on (accepts q);
     }
 
 -- the form of a legal instruction is written as the instruction is

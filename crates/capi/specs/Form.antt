@@ -59,8 +59,8 @@ abbrev pub form-after : Outcome Refusal Instruction → List ℕ → List ℕ
 form-after (gives i) f = form-of i
 form-after (refuses _) f = f
 
--- the answer to writing a form's word into a buffer that holds bs: 8 and 2 first, "9: .. an unused place not 0" for padding, then as for
--- the instruction
+-- the answer to writing a form's word into a buffer that holds bs: 8 and 2 first, then 9 for padding that isn't 0, as padding is a place
+-- without use, then as for the instruction
 unfoldable pub write-form : List ℕ → List ℕ → Outcome Refusal (Unit {0})
 write-form f bs =
     require (eqb (length bs) 8) (refusal 8 0)

@@ -27,7 +27,7 @@ pub record ZeroMeansDone : Type 0 where
   pub of-write : (f buffer : List ℕ) → ZeroTells (write-form f buffer)
   -- vsp_fresh
   pub of-fresh : (row : ℕ) → ZeroTells (fresh row)
-  -- vsp_check: "Gives 0 where the container is accepted"
+  -- vsp_check: "Gives 0 where the parcel is accepted"
   pub of-check : (s : List ℕ) → (verdict-code (verdict-of s) ≡ 0) ↔ (verdict-of s ≡ passes)
 
 -- vsp_read: "Writing the form gives the same word again." Whatever the buffer of 8 bytes held, it then holds the bytes that were read.

@@ -4,6 +4,7 @@ ghost use Prim.Native.Nat.{_<_};
 ghost use Rattle.reader.specs.Reader.{read};
 ghost use Rattle.record.specs.Defaults.{fresh};
 ghost use Rattle.verifier.specs.Verdict.{verdict-of};
+ghost use Rattle.verifier.specs.Demand3.{Demand3At};
 ghost use Rattle.capi.specs.Codes.{code, packed, outcome-code, verdict-code};
 ghost use Rattle.capi.specs.Form.{form-after, write-form, word-after};
 use crate::form::form_of;
@@ -42,7 +43,8 @@ fn finding_code(f: Finding) -> u64
 // Verifies a container: 0 where it is accepted, else the finding as one number.
 #[no_mangle]
 pub extern "C" fn vsp_check(container: &[u8]) -> u64
-    ensures { λ r. ⌜ r ≡ verdict-code (verdict-of (now (container .entry))) ⌝ }
+    ensures answer { λ r. ⌜ r ≡ verdict-code (verdict-of (now (container .entry))) ⌝ }
+    ensures demand { λ r. ⌜ Demand3At (now (container .entry)) (r ≡ 0) ⌝ }
 {
     let v = verify(container);
     match v {

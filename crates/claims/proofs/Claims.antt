@@ -1,5 +1,6 @@
--- What is proved, on one page: every top theorem by name. The types are the statements; the definitions in them stand in the `specs` folders,
--- in the order that README gives. The calls are those that users have: their contracts stand at the calls, in `src`. Assumes nothing.
+-- What is proved, on one page: every top theorem by name, but for those of sweeps, which no call makes yet. The types are the statements; the
+-- definitions in them stand in the `specs` folders, in the order that README gives. The calls are those that users have: their contracts
+-- stand at the calls, in `src`. Assumes nothing.
 use mathlib.Core.List.{List}
 use Prim.Native.Nat.{ℕ, _<_, _≤_}
 use mathlib.Core.Path.{_≡_}
@@ -27,12 +28,23 @@ use Rattle.codec.proofs.Defaulted as defaulted
 use Rattle.container.proofs.header.«open» as open-call
 use Rattle.container.proofs.parts.annotations as annotations-call
 use Rattle.container.proofs.view.word_of as word-call
-use Rattle.container.specs.Opening.{open-outcome}
+use Rattle.container.proofs.view.word_in as word-in-call
+use Rattle.container.proofs.view.word_at as word-at-call
+use Rattle.container.proofs.view.view_of as view-call
+use Rattle.container.proofs.view.open_count as count-call
+use Rattle.container.proofs.WordLaws as word-laws
+use Rattle.container.specs.Container.{count-of, words-of, eight}
+use Rattle.bits.specs.Bytes.{little}
+use Rattle.container.specs.Opening.{Rejection, unplaced, open-outcome, Opens}
+use Rattle.container.specs.Words.{word-outcome, open-count}
 use Rattle.container.proofs.NumberedLaws as container-numbers
 use Rattle.verifier.specs.declared.verdict.Finding.{Finding}
-use Rattle.verifier.specs.Verdict.{verdict-of}
+use Rattle.verifier.specs.Verdict.{Judgement, verdict-of}
 use Rattle.verifier.specs.Reasons.{Reason}
 use Rattle.verifier.specs.Demand3.{Demand3}
+use Rattle.verifier.specs.Lazy.{WavesThrough}
+use Rattle.walks.specs.Walks.{Machine, HoldsIfSupplied}
+use Rattle.walks.proofs.WalkLaws as walk-laws
 use Rattle.verifier.proofs.verify as check-call
 use Rattle.verifier.proofs.NumberedLaws as verifier-numbers
 use Rattle.verifier.proofs.Demand3 as demand-3-met
@@ -54,11 +66,12 @@ use Rattle.capi.proofs.PromiseLaws as promises
 -- ---- Demand 1: every call ends, with the answer that its contract names, and a refusal writes nothing. A contract's `ensures` equates the
 -- answer and each lent buffer afterwards with a definition, for all that can be handed in; none of these calls has a `requires`.
 module _ {M : Type 1} where
-  -- `codec::read_word`: the answer is `read` of the bytes
+  -- `codec::read_word`: the answer is `read` of the bytes, and of it what demand 2 asks of reading holds
   pub reads : read-call.Statement.statement M
   reads = read-call.Met.met
 
-  -- `codec::write_word`: the answer is `write` of the instruction and the buffer, which then holds `stored`
+  -- `codec::write_word`: the answer is `write` of the instruction and the buffer, which then holds `stored`; what demand 2 asks of
+  -- writing holds of them
   pub writes : write-call.Statement.statement M
   writes = write-call.Met.met
 
@@ -70,19 +83,32 @@ module _ {M : Type 1} where
   pub opens : open-call.Statement.statement M
   opens = open-call.Met.met
 
-  -- `container::parts::annotations`: the part of the bytes that holds the notes
+  -- `container::parts::annotations`: the part of the bytes that holds the notes, an empty part where they do not open
   pub lends-annotations : annotations-call.Statement.statement M
   lends-annotations = annotations-call.Met.met
 
-  -- `container::view::word_of`: a word of a parcel, or its refusal
+  -- `container::view`: how many instructions there are, the view of a container, and the word at an index of one, of a view that anyone made,
+  -- or of bytes with any n, or its refusal
+  pub counts : count-call.Statement.statement M
+  counts = count-call.Met.met
+
+  pub views : view-call.Statement.statement M
+  views = view-call.Met.met
+
   pub fetches : word-call.Statement.statement M
   fetches = word-call.Met.met
 
-  -- `verifier::verify`: the answer is `verdict-of` the bytes
+  pub fetches-from-a-view : word-at-call.Statement.statement M
+  fetches-from-a-view = word-at-call.Met.met
+
+  pub fetches-with-any-n : word-in-call.Statement.statement M
+  fetches-with-any-n = word-in-call.Met.met
+
+  -- `verifier::verify`: the answer is `verdict-of` the bytes, demand 3 holds of it, and a refusal has its reason
   pub checks : check-call.Statement.statement M
   checks = check-call.Met.met
 
-  -- `listing::write`: the buffer holds `listing` of the bytes, or is left alone where it has no room
+  -- `listing::write`: the buffer then begins with `listing` of the bytes
   pub lists : list-call.Statement.statement M
   lists = list-call.Met.met
 
@@ -99,22 +125,30 @@ module _ {M : Type 1} where
   pub c-checks : vsp-check-call.Statement.statement M
   c-checks = vsp-check-call.Met.met
 
--- the numbers of the refusals are those of the rules: 1 to 7 of reading, 2 to 9 of writing, 2 of making, 10 to 13 of opening, and those of
--- opening and reading or 20 to 23 of the check
+-- the numbers of the refusals are those of the rules: 1 to 7 of reading, 2 and 4 to 9 of writing, 2 of making, 10 to 13 of opening, 14 of
+-- asking for a word, and of the check 2 to 7, 10 to 13 and 20 to 23
 pub read-refusals : (bs : List ℕ) (f : Refusal) → read bs ≡ refuses f → (1 ≤ f .number) × (f .number ≤ 7)
 read-refusals = reader-numbers.read-numbers
 
-pub write-refusals : (i : Instruction) (buffer : List ℕ) (f : Refusal) → write i buffer ≡ refuses f → (2 ≤ f .number) × (f .number ≤ 9)
+pub write-refusals : (i : Instruction) (buffer : List ℕ) (f : Refusal) → write i buffer ≡ refuses f
+    → (f .number ≡ 2) ⊎ ((4 ≤ f .number) × (f .number ≤ 9))
 write-refusals = round-trip.write-numbers
 
 pub fresh-refusals : (row : ℕ) (f : Refusal) → fresh row ≡ refuses f → f .number ≡ 2
 fresh-refusals = record-numbers.fresh-numbers
 
-pub open-refusals : (s : List ℕ) (n : ℕ) → open-outcome s ≡ refuses n → (10 ≤ n) × (n ≤ 13)
+pub open-refusals : (s : List ℕ) (r : Rejection) → open-outcome s ≡ refuses r → ((10 ≤ r .number) × (r .number ≤ 13)) × (r .place ≡ 0)
 open-refusals = container-numbers.open-numbers
 
+pub fetch-refusals : (s : List ℕ) (n i : ℕ) (r : Rejection) → word-outcome s n i ≡ refuses r → r ≡ unplaced 14
+fetch-refusals = container-numbers.word-numbers
+
+-- an opened container has a word at each index below its count
+pub fetches-all : (s : List ℕ) → Opens s → (i : ℕ) → i < count-of s → word-outcome s (open-count s) i ≡ gives (little (eight (words-of s) i))
+fetches-all s o = word-laws.opened-word s o
+
 pub check-refusals : (s : List ℕ) (f : Finding) → verdict-of s ≡ refuses f
-    → ((1 ≤ f .number) × (f .number ≤ 7)) ⊎ (((10 ≤ f .number) × (f .number ≤ 13)) ⊎ ((20 ≤ f .number) × (f .number ≤ 23)))
+    → ((2 ≤ f .number) × (f .number ≤ 7)) ⊎ (((10 ≤ f .number) × (f .number ≤ 13)) ⊎ ((20 ≤ f .number) × (f .number ≤ 23)))
 check-refusals = verifier-numbers.verdict-numbers
 
 -- ---- Demand 2: what is read, what is written, and that the two undo one another
@@ -155,12 +189,20 @@ demand-3 = demand-3-met.demand3
 pub refused-for-a-reason : (s : List ℕ) → T (areBytes s) → {f : Finding} → verdict-of s ≡ refuses f → Reason s f
 refused-for-a-reason = reasons.reason
 
--- the demand is not met by always accepting, nor by always refusing
+-- the two ways of saying that a register is held agree
+pub holds-if-supplied : {G : Type 0} (m : Machine G) → HoldsIfSupplied m
+holds-if-supplied m = walk-laws.holds-if-supplied m
+
+-- the demand is not met by always accepting, nor by always refusing, nor by a check that accepts whatever one accepts that looks at
+-- instruction 0 alone
 pub not-by-accepting : ¬ Demand3 (λ s. passes)
 not-by-accepting = lazy-checks.always-yes
 
 pub not-by-refusing-all : (f : List ℕ → Finding) → ¬ Demand3 (λ s. refuses (f s))
 not-by-refusing-all = lazy-checks.always-no
+
+pub not-by-waving-through : (check : List ℕ → Judgement) → WavesThrough check → ¬ Demand3 check
+not-by-waving-through = lazy-checks.only-first
 
 -- ---- The listing: of a well-formed parcel a line for each word and then the verdict, else the verdict only; no digit is lost
 pub listed : (s : List ℕ) → T (areBytes s) → ListedAsAsked s (listing s)

@@ -107,11 +107,11 @@ unfolding word-a word-b
 differ l p q = let e = ap (λ (xs : List ℕ). getD xs 0 0) (p ∙ q) in omega arith
 
 module _ (writer : Instruction → List ℕ → Outcome Refusal (Unit {0})) (after : Instruction → List ℕ → List ℕ) where
-  -- a reader that refuses all words
+  -- a reader that refuses whatever it is given
   pub refuses-all : (f : List ℕ → Refusal) → Demand2 (λ (bs : List ℕ). refuses (f bs)) writer after → ⊥
   refuses-all f d = never (d .read-when word-b .1 readable-b .1)
 
-  -- a reader that returns one fixed record
+  -- a reader that gives the same record for every word that it reads
   pub one-record : (reader : List ℕ → Outcome Refusal Instruction) (i : Instruction) → ((bs : List ℕ) (j : Instruction) → reader bs ≡ gives j → j ≡ i)
       → Demand2 reader writer after → ⊥
   unfolding word-a word-b
@@ -124,7 +124,7 @@ module _ (writer : Instruction → List ℕ → Outcome Refusal (Unit {0})) (aft
       (sym x ∙ ap (λ (j : Instruction). after j (replicate 8 0)) (fixed word-a (a .0) (a .1)))
       (ap (λ (j : Instruction). after j (replicate 8 0)) (sym (fixed word-b (b .0) (b .1))) ∙ y)
 
--- a writer that writes nothing
+-- a writer that leaves the buffer as it was
 pub writes-nothing : (reader : List ℕ → Outcome Refusal Instruction) (writer : Instruction → List ℕ → Outcome Refusal (Unit {0}))
     → Demand2 reader writer (λ (i : Instruction) (bs : List ℕ). bs) → ⊥
 unfolding word-b

@@ -1,4 +1,4 @@
--- A word is read exactly when it is readable. Assumes nothing.
+-- The readable words are read, and they alone. Assumes nothing.
 use mathlib.Core.Path.{_≡_, refl}
 use mathlib.Core.Bool.{Bool, true, false}
 use mathlib.Core.List.{List}

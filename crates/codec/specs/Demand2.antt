@@ -1,6 +1,6 @@
--- Demand 2: "A word is read exactly when one row of the published instruction table fits it, its flow, destination, modifiers and sources
--- are legal and every unassigned bit is zero; no word fits two rows. Writing the record read gives that word again, and reading the word
--- written from a legal record gives that record."
+-- Demand 2: the words that read are those which fit a row of 01's table, hold only legal values in the row's fields, and have 0 in all bits
+-- that are no field of the row; any other word is refused. Two rows never fit the same word. To read a word and write the record leads back
+-- to the word; to write a legal record and read the word leads back to the record.
 use mathlib.Core.Path.{_≡_}
 use mathlib.Core.Bool.{Bool, true, false}
 use mathlib.Core.List.{List, [], _∷_}
@@ -43,14 +43,14 @@ Fits k w = (bits w 48 9 ≡ row-of k .opcode) × (bits w (row-of k .second-low) 
 -- what the words are that are read
 pub record Readable (bs : List ℕ) : Type 0 where
   pub eight : length bs ≡ 8
-  -- one row fits, and no other
+  -- a row fits, and it is the only one
   pub row : ℕ
   pub in-table : row < row-count
   pub fits : Fits row (little bs)
   pub only : (k : ℕ) → k < row-count → Fits k (little bs) → k ≡ row
-  -- every unassigned bit is zero
+  -- a bit that is no field of the row is 0
   pub unassigned : (b : ℕ) → b < 64 → assigned (slots (row-of row)) b ≡ false → bits (little bs) b 1 ≡ 0
-  -- its flow, destination, modifiers and sources are legal
+  -- each field holds a legal value
   pub flow-legal : Allowed flow (bits (little bs) 59 4)
   pub destination-legal : row-of row .destination ≡ true → Allowed half-mask (bits (little bs) 46 2)
   pub modifiers-legal : Each (λ (m : Modifier). Allowed (m .kind) (bits (little bs) (m .low) (width (m .kind)))) (row-of row .modifiers)
@@ -67,7 +67,7 @@ pub record Sourced (i : Instruction) (k b : ℕ) : Type 0 where
   pub present : k < row-of (i .row) .sources → source-legal (i .page) b ≡ true
   pub absent : row-of (i .row) .sources ≤ k → b ≡ 0
 
--- "Offsets run from -67108864 to 67108863."
+-- a branch offset has 27 bits in two's complement: -67108864 is the lowest, 67108863 the highest
 abbrev pub InRange : ℤ → Type 0
 InRange (pos n) = n < 67108864
 InRange (negsuc n) = n < 67108864
@@ -95,14 +95,14 @@ Given {A} o = (a : A) × (o ≡ gives a)
 -- bytes afterwards. Bytes are numbers below 256.
 pub record Demand2 (reader : List ℕ → Outcome Refusal Instruction) (writer : Instruction → List ℕ → Outcome Refusal (Unit {0}))
     (after : Instruction → List ℕ → List ℕ) : Type 0 where
-  -- "A word is read exactly when .."
+  -- the readable words are read, and they alone
   pub read-when : (bs : List ℕ) → Given (reader bs) ↔ Readable bs
-  -- "no word fits two rows"
+  -- rows that fit the same word are the same row
   pub one-row : (w j k : ℕ) → j < row-count → k < row-count → Fits j w → Fits k w → j ≡ k
-  -- "Writing the record read gives that word again"
+  -- from a word to its record and back
   pub again : (bs : List ℕ) → ((b : ℕ) → getD bs b 0 < 256) → (i : Instruction) → reader bs ≡ gives i → (buffer : List ℕ) → length buffer ≡ 8
       → (writer i buffer ≡ passes) × (after i buffer ≡ bs)
-  -- "reading the word written from a legal record gives that record"
+  -- from a legal record to its word and back
   pub back : (i : Instruction) → LegalRecord i → (buffer : List ℕ) → length buffer ≡ 8
       → (writer i buffer ≡ passes) × (reader (after i buffer) ≡ gives i)
   -- a record is written exactly when it is legal and the buffer has eight bytes

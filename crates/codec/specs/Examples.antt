@@ -1,4 +1,4 @@
--- Examples A to L of paper 01, "Checked examples": what each word reads as, what its sources mean, and that writing gives the word back.
+-- Examples A to L (01, Checked examples): what each word reads as, what its sources mean, and that writing gives the word back.
 use mathlib.Core.Path.{_≡_}
 use mathlib.Core.List.{List, [], _∷_, _++_, map}
 use Prim.Native.Nat.{ℕ}
@@ -65,7 +65,7 @@ examples =
     ∷ refused-with 0x0091C10000010002 2 0
     ∷ refused-with 0x5891C10000000002 4 0
     ∷ refused-with 0x00F0C00600020100 6 32
-    -- L: 7, while ...E2 reads warp_id
+    -- L: 7; with byte E2 it is warp_id
     ∷ refused-with 0x0091C100000000E0 7 0
     ∷ reads-as 0x0091C100000000E2 (instruction 30 0 0 1 3 0xE2 0 (modifiers 0 0 0) (pos 0)) (special warp-id ∷ [])
     ∷ []

@@ -17,7 +17,7 @@ use Rattle.container.specs.declared.header.Header.{Header}
 use Rattle.container.specs.declared.header.Opening.{Opening}
 use Rattle.container.specs.declared.header.Opening.the-variants.{Opened, Refused}
 use Rattle.container.specs.Container.{part, number, header-length, word-length, annotation-length, most-instructions, version, marked, version-of, zero-of, count-of, entry-of, words-of, annotations-of, annotations-start, container-length}
-use Rattle.container.specs.Opening.{header-of, opening-outcome, open-outcome, Opens, InPlace, annotations-in, Annotations}
+use Rattle.container.specs.Opening.{Rejection, unplaced, header-of, opening-outcome, open-outcome, Opens, InPlace, annotations-in, Annotations}
 
 both : (a b : Bool) → (a && b) ≡ true → (a ≡ true) × (b ≡ true)
 both true b e = (refl, e)
@@ -61,7 +61,7 @@ module _ (s : List ℕ) {h : Header} (o : open-outcome s ≡ gives h) where
       let a = then-gives _ _ h (then-gives _ _ h (then-gives _ _ h (then-gives _ _ h o .1) .1) .1) in
       let b = then-gives _ _ h (a .1) in
       let c = then-gives _ _ h (b .1) in
-      let t = both (leb 1 n) (leb n most-instructions) (required _ 12 (b .0)) in
+      let t = both (leb 1 n) (leb n most-instructions) (required _ (unplaced 12) (b .0)) in
       let e : h ≡ header-of s = cc (c .1) in
       record {
         header = e;
@@ -69,7 +69,7 @@ module _ (s : List ℕ) {h : Header} (o : open-outcome s ≡ gives h) where
         enters = ap (λ (x : Header). x .entry) e;
         some = leb-true 1 n (t .0);
         few = leb-true n most-instructions (t .1);
-        long = eqb-true (length s) (container-length n) (required _ 12 (c .0));
+        long = eqb-true (length s) (container-length n) (required _ (unplaced 12) (c .0));
       }
 
   pub opened : Opens s
@@ -102,39 +102,39 @@ module _ (s r : RefT (List ℕ)) (a : Annotations s r) where
   pub annotations-contents : {h : Header} → open-outcome (now s) ≡ gives h → now r ≡ annotations-of (now s)
   unfolding annotations-of
   annotations-contents {h} o =
-      let p : InPlace s r (annotations-start (h .count)) (annotation-length * h .count) = subst (λ (x : Outcome ℕ Header). annotations-in x s r) o a in
+      let p : InPlace s r (annotations-start (h .count)) (annotation-length * h .count) = subst (λ (x : Outcome Rejection Header). annotations-in x s r) o a in
       p .contents ∙ ap (λ (n : ℕ). part (now s) (annotations-start n) (annotation-length * n)) (sized (now s) o .counts)
 
-  pub annotations-none : {n : ℕ} → open-outcome (now s) ≡ refuses n → now r ≡ []
+  pub annotations-none : {n : Rejection} → open-outcome (now s) ≡ refuses n → now r ≡ []
   annotations-none o =
-      let p : InPlace s r 0 0 = subst (λ (x : Outcome ℕ Header). annotations-in x s r) o a in p .contents
+      let p : InPlace s r 0 0 = subst (λ (x : Outcome Rejection Header). annotations-in x s r) o a in p .contents
 
 -- what opening found, from its answer
-module _ {a : Opening} {x : Outcome ℕ Header} (e : opening-outcome a ≡ x) where
+module _ {a : Opening} {x : Outcome Rejection Header} (e : opening-outcome a ≡ x) where
   pub opened-by : {h : Header} → a ≡ Opened h → x ≡ gives h
   opened-by q = sym e ∙ ap opening-outcome q
 
-  pub refused-by : {r : ℕ} → a ≡ Refused r → x ≡ refuses r
+  pub refused-by : {n : ℕ} → a ≡ Refused n → x ≡ refuses (unplaced n)
   refused-by q = sym e ∙ ap opening-outcome q
 
 -- the order of the tests
 module _ (s : List ℕ) where
-  pub too-short : length s < header-length → refuses 12 ≡ open-outcome s
+  pub too-short : length s < header-length → refuses (unplaced 12) ≡ open-outcome s
   unfolding open-outcome _then_
   too-short h = rw (lt-leb header-length (length s) h)
 
   module _ (long : header-length ≤ length s) where
-    pub wrong-mark : marked s ≡ false → refuses 10 ≡ open-outcome s
+    pub wrong-mark : marked s ≡ false → refuses (unplaced 10) ≡ open-outcome s
     unfolding open-outcome _then_
     wrong-mark e = rw (le-leb header-length (length s) long, e)
 
     module _ (mark : marked s ≡ true) where
-      pub wrong-version : ¬ (version-of s ≡ version) → refuses 11 ≡ open-outcome s
+      pub wrong-version : ¬ (version-of s ≡ version) → refuses (unplaced 11) ≡ open-outcome s
       unfolding open-outcome _then_
       wrong-version e = rw (le-leb header-length (length s) long, mark, ne-eqb (version-of s) version e)
 
       module _ (read : version-of s ≡ version) where
-        pub wrong-zero : ¬ (zero-of s ≡ 0) → refuses 13 ≡ open-outcome s
+        pub wrong-zero : ¬ (zero-of s ≡ 0) → refuses (unplaced 13) ≡ open-outcome s
         unfolding open-outcome _then_
         wrong-zero e = rw (le-leb header-length (length s) long, mark, eq-eqb (version-of s) version read, ne-eqb (zero-of s) 0 e)
 
@@ -146,22 +146,22 @@ pub record Framed (s : List ℕ) : Type 0 where
   pub nought : zero-of s ≡ 0
 
 module _ (s : List ℕ) (f : Framed s) where
-  counted : (require (leb 1 (count-of s) && leb (count-of s) most-instructions) 12
-      then require (eqb (length s) (container-length (count-of s))) 12
+  counted : (require (leb 1 (count-of s) && leb (count-of s) most-instructions) (unplaced 12)
+      then require (eqb (length s) (container-length (count-of s))) (unplaced 12)
       then gives (header-of s)) ≡ open-outcome s
   unfolding open-outcome _then_
   counted = rw (le-leb header-length (length s) (f .long), f .mark, eq-eqb (version-of s) version (f .read), eq-eqb (zero-of s) 0 (f .nought))
 
-  pub no-instruction : count-of s < 1 → refuses 12 ≡ open-outcome s
+  pub no-instruction : count-of s < 1 → refuses (unplaced 12) ≡ open-outcome s
   unfolding _then_
   no-instruction h = rw (lt-leb 1 (count-of s) h) at counted
 
-  pub too-many : most-instructions < count-of s → refuses 12 ≡ open-outcome s
+  pub too-many : most-instructions < count-of s → refuses (unplaced 12) ≡ open-outcome s
   unfolding _then_
   too-many h = rw (le-leb 1 (count-of s) (omega arith), lt-leb (count-of s) most-instructions h) at counted
 
   module _ (some : 0 < count-of s) (few : count-of s ≤ most-instructions) where
-    pub wrong-length : ¬ (length s ≡ container-length (count-of s)) → refuses 12 ≡ open-outcome s
+    pub wrong-length : ¬ (length s ≡ container-length (count-of s)) → refuses (unplaced 12) ≡ open-outcome s
     unfolding _then_
     wrong-length e =
         rw (le-leb 1 (count-of s) some, le-leb (count-of s) most-instructions few, ne-eqb (length s) (container-length (count-of s)) e) at counted

@@ -10,18 +10,18 @@ use Rattle.bits.specs.Bytes.{little}
 use Rattle.bits.specs.Outcomes.{gives, refuses, _then_}
 use Rattle.container.specs.declared.header.Header.{Header}
 use Rattle.container.specs.Container.{part, number, header-length, word-length, word-start, count-of, words-of, eight}
-use Rattle.container.specs.Opening.{open-outcome}
+use Rattle.container.specs.Opening.{unplaced, open-outcome}
 use Rattle.container.specs.Words.{word-outcome, open-count, count-in}
 use Rattle.container.proofs.OpeningLaws.{sized}
 
 -- the order of the tests
 module _ (s : List ℕ) (n i : ℕ) where
-  pub past-count : n ≤ i → refuses 14 ≡ word-outcome s n i
+  pub past-count : n ≤ i → refuses (unplaced 14) ≡ word-outcome s n i
   unfolding word-outcome _then_
   past-count h = rw (le-ltb i n h)
 
   module _ (below : i < n) where
-    pub past-bytes : length s < word-start i + word-length → refuses 14 ≡ word-outcome s n i
+    pub past-bytes : length s < word-start i + word-length → refuses (unplaced 14) ≡ word-outcome s n i
     unfolding word-outcome _then_
     past-bytes h = rw (lt-ltb i n below, lt-leb (word-start i + word-length) (length s) h)
 

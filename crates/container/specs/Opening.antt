@@ -1,4 +1,4 @@
--- Opening a container: its header, or the number of the first refusal, and the annotations as a part of the caller's bytes.
+-- Opening a container: its header, or the first refusal, and the part of the lent bytes that the annotations are.
 use mathlib.Core.Path.{_≡_}
 use mathlib.Core.Bool.{_&&_}
 use mathlib.Core.List.{List}
@@ -12,30 +12,39 @@ use Rattle.container.specs.declared.header.Opening.{Opening}
 use Rattle.container.specs.declared.header.Opening.the-variants.{Opened, Refused}
 use Rattle.container.specs.Container.{part, header-length, annotation-length, most-instructions, version, marked, version-of, zero-of, count-of, entry-of, annotations-start, container-length}
 
--- the outcome that each answer of opening stands for: a header, or the paper's number. The place of these refusals is always 0, and not
--- carried.
-abbrev pub opening-outcome : Opening → Outcome ℕ Header
+-- what a refusal of opening, or of asking for a word, tells (01, Numbers given back): its number and its place
+pub record Rejection : Type 0 where
+  pub number : ℕ
+  pub place : ℕ
+
+-- these refusals name no place, so it is 0
+abbrev pub unplaced : ℕ → Rejection
+unplaced n = record { number = n; place = 0 }
+
+-- the outcome that each answer of opening stands for: a header, or the paper's number with place 0
+abbrev pub opening-outcome : Opening → Outcome Rejection Header
 opening-outcome (Opened h) = gives h
-opening-outcome (Refused r) = refuses r
+opening-outcome (Refused n) = refuses (unplaced n)
 
 -- what opening gives: n and the entry set
 abbrev pub header-of : List ℕ → Header
 header-of s = record { count = count-of s; entry = entry-of s }
 
--- "Opening: 12 (short), 10, 11, 13, 12."
-unfoldable pub open-outcome : List ℕ → Outcome ℕ Header
+-- opening, with the tests in the order of 01, Numbers given back
+unfoldable pub open-outcome : List ℕ → Outcome Rejection Header
 open-outcome s =
-    -- "under 16 bytes"
-    require (leb header-length (length s)) 12
-    -- "wrong mark"
-    then require (marked s) 10
-    -- "version"
-    then require (eqb (version-of s) version) 11
-    -- "byte 5 not 0"
-    then require (eqb (zero-of s) 0) 13
-    -- "n or length wrong"
-    then require (leb 1 (count-of s) && leb (count-of s) most-instructions) 12
-    then require (eqb (length s) (container-length (count-of s))) 12
+    -- shorter than a header
+    require (leb header-length (length s)) (unplaced 12)
+    -- another mark
+    then require (marked s) (unplaced 10)
+    -- another version
+    then require (eqb (version-of s) version) (unplaced 11)
+    -- byte 5 is not 0
+    then require (eqb (zero-of s) 0) (unplaced 13)
+    -- no count from 1 to 2048
+    then require (leb 1 (count-of s) && leb (count-of s) most-instructions) (unplaced 12)
+    -- another length than the count asks
+    then require (eqb (length s) (container-length (count-of s))) (unplaced 12)
     then gives (header-of s)
 
 -- the bytes s open
@@ -47,8 +56,8 @@ pub record InPlace (s r : RefT (List ℕ)) (start k : ℕ) : Type 0 where
   pub place : r .ptr ≡ (s .ptr .0, s .ptr .1 + start)
   pub contents : now r ≡ part (now s) start k
 
--- "Opening a parcel hands back the notes as a part of the caller's own bytes, an empty part on a refusal": there no bytes, from the front
-abbrev pub annotations-in : Outcome ℕ Header → RefT (List ℕ) → RefT (List ℕ) → Type 0
+-- the annotations as a part of the lent bytes themselves (01, The parcel); where they do not open the part is empty, at the front
+abbrev pub annotations-in : Outcome Rejection Header → RefT (List ℕ) → RefT (List ℕ) → Type 0
 annotations-in (gives h) s r = InPlace s r (annotations-start (h .count)) (annotation-length * h .count)
 annotations-in (refuses _) s r = InPlace s r 0 0
 

@@ -1,4 +1,4 @@
--- The word at an index of a container: "An opened parcel can be asked for the word at an index; an index of n or more is refused with 14."
+-- The word at an index of a container, and refusal 14 where there is none (01, The parcel and Numbers given back).
 use mathlib.Core.List.{List}
 use Prim.Native.Nat.{ℕ, _+_}
 use lib.Dec.{leb, ltb}
@@ -8,24 +8,24 @@ use Rattle.container.specs.declared.header.Header.{Header}
 use Rattle.container.specs.declared.view.Fetched.{Fetched}
 use Rattle.container.specs.declared.view.Fetched.the-variants.{Word, Missing}
 use Rattle.container.specs.Container.{number, word-length, word-start}
-use Rattle.container.specs.Opening.{open-outcome}
+use Rattle.container.specs.Opening.{Rejection, unplaced, open-outcome}
 
--- the outcome that each answer stands for: a word, or the paper's number. The place of the refusal is always 0, and not carried.
-abbrev pub fetched-outcome : Fetched → Outcome ℕ ℕ
+-- the outcome that each answer stands for: a word, or the paper's number with place 0
+abbrev pub fetched-outcome : Fetched → Outcome Rejection ℕ
 fetched-outcome (Word w) = gives w
-fetched-outcome (Missing r) = refuses r
+fetched-outcome (Missing n) = refuses (unplaced n)
 
 -- the word at index i of the bytes s, of a container of n instructions
-unfoldable pub word-outcome : List ℕ → ℕ → ℕ → Outcome ℕ ℕ
+unfoldable pub word-outcome : List ℕ → ℕ → ℕ → Outcome Rejection ℕ
 word-outcome s n i =
-    -- "index not below n"
-    require (ltb i n) 14
-    -- "or its word not inside the lent bytes"
-    then require (leb (word-start i + word-length) (length s)) 14
+    -- n is not above the index
+    require (ltb i n) (unplaced 14)
+    -- the word is not whole inside the bytes, as it can be where n is made up
+    then require (leb (word-start i + word-length) (length s)) (unplaced 14)
     then gives (number s (word-start i) word-length)
 
 -- n where the bytes open, and no instructions where they do not
-abbrev pub count-in : Outcome ℕ Header → ℕ
+abbrev pub count-in : Outcome Rejection Header → ℕ
 count-in (gives h) = h .count
 count-in (refuses _) = 0
 

@@ -39,7 +39,7 @@ pub fn word_in(bytes: &[u8], n: usize, i: usize) -> Fetched
 }
 
 // How many instructions there are; none where the bytes do not open.
-fn open_count(bytes: &[u8]) -> usize
+pub fn open_count(bytes: &[u8]) -> usize
     ensures { λ r. ⌜ r ≡ open-count (now (bytes .entry)) ⌝ }
 {
     match open(bytes) {

@@ -6,7 +6,7 @@ use native.Mathlib.Omega.{arith}
 use lib.Dec.{T, lit<}
 use lib.Pow.{areBytes}
 use Rattle.bits.specs.Outcomes.{Outcome, gives, refuses, passes, _then_}
-use Rattle.bits.proofs.OutcomeLaws.{never, then-refused, told, Refusals, Between}
+use Rattle.bits.proofs.OutcomeLaws.{never, then-refused, told, Refusals}
 use Rattle.record.specs.declared.instruction.Instruction.{Instruction}
 use Rattle.record.specs.declared.answer.Refusal.{Refusal}
 use Rattle.record.proofs.NumberedLaws.{Numbered}
@@ -14,9 +14,9 @@ use Rattle.reader.specs.Reader.{read}
 use Rattle.reader.proofs.NumberedLaws.{read-numbers}
 use Rattle.container.specs.declared.header.Header.{Header}
 use Rattle.container.specs.Container.{most-instructions, count-of, words-of, eight}
-use Rattle.container.specs.Opening.{open-outcome, Opens}
+use Rattle.container.specs.Opening.{Rejection, open-outcome, Opens}
 use Rattle.container.proofs.OpeningLaws.{sized}
-use Rattle.container.proofs.NumberedLaws.{open-numbers}
+use Rattle.container.proofs.NumberedLaws.{Unopened, open-numbers}
 use Rattle.verifier.specs.declared.verdict.Finding.{Finding}
 use Rattle.verifier.specs.Program.{Program, program-of, WellFormed}
 use Rattle.verifier.specs.Verdict.{Judgement, first, judge-opening, judge-reading, judge-word, judge-program, verdict-of}
@@ -45,9 +45,9 @@ wrong-shown p h (annotation-lacks i r l m) = record { number = lit< tt; index = 
 wrong-shown p h (runs-off i z l q o) = record { number = lit< tt; index = omega arith; register = lit< tt }
 wrong-shown p h (successor-lacks i j r l q b m) = record { number = lit< tt; index = omega arith; register = omega (arith, m .is) }
 
-unopened-shown : (o : Outcome ℕ Header) → Refusals (Between 10 13) o → {f : Finding} → judge-opening o ≡ refuses f → Shown f
+unopened-shown : (o : Outcome Rejection Header) → Refusals Unopened o → {f : Finding} → judge-opening o ≡ refuses f → Shown f
 unopened-shown (gives h) p e = never (sym e)
-unopened-shown (refuses n) p e = subst Shown (told e) (record { number = omega (arith, p n refl .1); index = lit< tt; register = lit< tt })
+unopened-shown (refuses r) p e = subst Shown (told e) (record { number = omega (arith, p r refl .0 .1); index = lit< tt; register = lit< tt })
 
 unread-shown : (i : ℕ) → i < 10000 → (o : Outcome Refusal Instruction) → Refusals (Numbered 1 7) o → {f : Finding} → judge-reading i o ≡ refuses f → Shown f
 unread-shown i h (gives x) p e = never (sym e)

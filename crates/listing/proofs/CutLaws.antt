@@ -13,7 +13,7 @@ use Rattle.bits.specs.Outcomes.{Outcome, gives, refuses, passes, require, _then
 use Rattle.bits.proofs.OutcomeLaws.{then-refused}
 use Rattle.container.specs.declared.header.Header.{Header}
 use Rattle.container.specs.Container.{header-length, most-instructions, version, marked, version-of, zero-of, count-of, words-of, container-length}
-use Rattle.container.specs.Opening.{header-of, open-outcome}
+use Rattle.container.specs.Opening.{Rejection, unplaced, header-of, open-outcome}
 use Rattle.container.proofs.OpeningLaws.{version-two, count-two}
 use Rattle.verifier.specs.Program.{program-of}
 use Rattle.verifier.specs.Verdict.{Judgement, finding, no-register, first, judge-opening, judge-word, judge-program, verdict-of}
@@ -22,25 +22,25 @@ use Rattle.listing.specs.Cut.{longest-container, read-length, FromTheFro
 use Rattle.listing.proofs.ListingLaws.{listing-unread}
 
 -- the tests of the count and of the length, as opening has them
-abbrev counted : Bool → Bool → Header → Outcome ℕ Header
-counted count long h = require count 12 then require long 12 then gives h
+abbrev counted : Bool → Bool → Header → Outcome Rejection Header
+counted count long h = require count (unplaced 12) then require long (unplaced 12) then gives h
 
 -- no count goes with a length over the longest
 no-count : (l n : ℕ) (h : Header) → longest-container < l
-    → counted (leb 1 n && leb n most-instructions) (eqb l (container-length n)) h ≡ refuses 12
+    → counted (leb 1 n && leb n most-instructions) (eqb l (container-length n)) h ≡ refuses (unplaced 12)
 unfolding _then_
 no-count l n h big = go (leb 1 n) (leb n most-instructions) refl
   where
-    go : (a b : Bool) → leb n most-instructions ≡ b → counted (a && b) (eqb l (container-length n)) h ≡ refuses 12
+    go : (a b : Bool) → leb n most-instructions ≡ b → counted (a && b) (eqb l (container-length n)) h ≡ refuses (unplaced 12)
     go false b e = refl
     go true false e = refl
     go true true e = rw (ne-eqb l (container-length n) (λ q. omega (arith, leb-true n most-instructions e)))
 
 -- what is too long is refused by its first eight bytes
-abbrev front : Bool → Bool → Bool → Outcome ℕ Header
-front mark read nought = require mark 10 then require read 11 then require nought 13 then refuses 12
+abbrev front : Bool → Bool → Bool → Outcome Rejection Header
+front mark read nought = require mark (unplaced 10) then require read (unplaced 11) then require nought (unplaced 13) then refuses (unplaced 12)
 
-front-refuses : (a b c : Bool) → (n : ℕ) × (front a b c ≡ refuses n)
+front-refuses : (a b c : Bool) → (n : ℕ) × (front a b c ≡ refuses (unplaced n))
 unfolding _then_
 front-refuses false b c = (10, refl)
 front-refuses true false c = (11, refl)
@@ -52,7 +52,7 @@ module _ (s : List ℕ) (big : longest-container < length s) where
   unfolding open-outcome _then_
   by-front = rw (le-leb header-length (length s) (omega arith), no-count (length s) (count-of s) (header-of s) big)
 
-module _ (s : List ℕ) {n : ℕ} (o : open-outcome s ≡ refuses n) where
+module _ (s : List ℕ) {n : ℕ} (o : open-outcome s ≡ refuses (unplaced n)) where
   unopened-verdict : verdict-of s ≡ refuses (finding n 0 0 no-register)
   unfolding verdict-of
   unopened-verdict = then-refused (first (judge-word (words-of s)) (count-of s) then judge-program (program-of s)) (ap judge-opening o)
@@ -82,7 +82,7 @@ module _ (s : List ℕ) (big : read-length ≤ length s) where
       let l = length-take-le read-length s big in
       same-opening s Front (λ i h. getD-take read-length s i 0 (omega arith)) (omega arith) (omega arith)
 
-  refused : (n : ℕ) × (open-outcome s ≡ refuses n)
+  refused : (n : ℕ) × (open-outcome s ≡ refuses (unplaced n))
   refused = let r = front-refuses (marked s) (eqb (version-of s) version) (eqb (zero-of s) 0) in (r .0, by-front s (omega arith) ∙ r .1)
 
   long-verdict : verdict-of Front ≡ verdict-of s

@@ -11,18 +11,22 @@ use lib.ListN.{length, take, drop, set, getD, replicate, length-append, length-r
 use lib.Seq.{drop-cons, take-suc, append-snoc, set-at, length-take-le, take-at}
 use Rattle.bits.proofs.Every.{every, at}
 use Rattle.bits.specs.Bytes.{little}
-use Rattle.bits.specs.Outcomes.{Outcome}
+use Rattle.bits.specs.Outcomes.{Outcome, gives, refuses}
+use Rattle.bits.proofs.OutcomeLaws.{never}
 use Rattle.record.specs.declared.instruction.Instruction.{Instruction}
 use Rattle.record.specs.declared.answer.Refusal.{Refusal}
-use Rattle.reader.specs.Reader.{read}
-use Rattle.container.specs.Container.{eight}
+use Rattle.reader.specs.Reader.{read-number}
+use Rattle.container.specs.Container.{count-of, words-of}
+use Rattle.container.specs.Opening.{Rejection, Opens}
+use Rattle.container.specs.Words.{word-outcome, open-count}
+use Rattle.container.proofs.WordLaws.{opened-word}
 use Rattle.rows.specs.Rows.{Row, rows, row-of, no-row, row-count}
 use Rattle.rows.specs.Names.{ascii, name-of, name-width, filled, name, names as all-names, before-space}
 use Rattle.rows.specs.declared.names.Name.{Name}
 use Rattle.rows.proofs.TableLaws.{in-table}
 use Rattle.rows.proofs.NameLaws.{name-in, name-there, no-name}
 use Rattle.listing.specs.Text.{space, line-feed, decimal, hex, Put}
-use Rattle.listing.specs.Listing.{name-in as name-read, line}
+use Rattle.listing.specs.Listing.{name-in as name-read, line, word-in}
 
 -- no name is longer than its place in the table
 short : ℕ → Row → Bool
@@ -74,8 +78,15 @@ pub no-name-put : (k : ℕ) (before : List ℕ) → row-count ≤ k → Put (nam
 unfolding ascii
 no-name-put k before h = rw (no-name k h) (record { counts = refl; fills = refl })
 
--- the line of a word that was loaded and read
-pub line-put : (words : List ℕ) (i : ℕ) {w n : ℕ} {r : Outcome Refusal Instruction} {before after : List ℕ} → w ≡ little (eight words i) → r ≡ read (eight words i)
-    → Put (decimal 4 i ++ (space ∷ hex 16 w) ++ (space ∷ name-read r) ++ (line-feed ∷ [])) before after n → Put (line words i) before after n
+-- the line of a word, piece by piece
+pub line-put : (i w : ℕ) {n : ℕ} {r : Outcome Refusal Instruction} {before after : List ℕ} → r ≡ read-number w
+    → Put (decimal 4 i ++ (space ∷ hex 16 w) ++ (space ∷ name-read r) ++ (line-feed ∷ [])) before after n → Put (line i w) before after n
 unfolding line
-line-put words i e f p = rw (← e, ← f) p
+line-put i w f p = rw (← f) p
+
+-- the word that was fetched
+pub fetched : (s : List ℕ) {i w : ℕ} → Opens s → i < count-of s → gives w ≡ word-outcome s (open-count s) i → w ≡ word-in (words-of s) i
+fetched s {i} o l e = cc (e ∙ opened-word s o i l)
+
+pub never-missing : (s : List ℕ) {i : ℕ} {r : Rejection} {X : Type 0} → Opens s → i < count-of s → refuses r ≡ word-outcome s (open-count s) i → X
+never-missing s {i} o l e = never (e ∙ opened-word s o i l)

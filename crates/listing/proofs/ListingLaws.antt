@@ -22,8 +22,9 @@ use Rattle.verifier.specs.Verdict.{Judgement, first, judge-opening, judge-word,
 use Rattle.verifier.proofs.VerdictLaws.{both, then-assoc}
 use Rattle.verifier.proofs.PassLaws.{worded}
 use Rattle.listing.specs.Text.{Put}
-use Rattle.listing.specs.Listing.{lines, verdict-line, all-read, lists, where-read, listing, longest-line, longest-verdict, listing-room, Listed}
+use Rattle.listing.specs.Listing.{lines, verdict-line, all-read, lists, listing}
 use Rattle.listing.proofs.TextLaws.{put-next, same-text}
+use Rattle.verifier.proofs.Demand3.{opening-of}
 use Rattle.listing.proofs.NumberLaws.{early, late, opens}
 
 module _ (s : List ℕ) where
@@ -68,45 +69,6 @@ module _ (s : List ℕ) where
   unfolding listing
   listing-unread e = rw e
 
--- a container whose words all read, lent with its count
-module _ (s : List ℕ) {n : ℕ} (all : all-read s ≡ passes) (counts : n ≡ open-count s) where
-  header : (h : Header) × (open-outcome s ≡ gives h)
-  header = go (open-outcome s) refl
-    where
-      go : (o : Outcome ℕ Header) → open-outcome s ≡ o → (h : Header) × (open-outcome s ≡ gives h)
-      go (gives h) e = (h, e)
-      go (refuses r) e = never (sym (ap judge-opening e) ∙ opens s all)
-
-  opening : Opens s
-  opening = opened s (header .1)
-
-  pub counted : n ≡ count-of s
-  unfolding open-count
-  counted = counts ∙ ap count-in opening
-
-  abbrev Words : List ℕ
-  Words = take (annotations-start n - header-length) (drop header-length s)
-
-  pub words-inside : annotations-start n ≤ length s
-  words-inside = omega (arith, sized s opening .long, counted)
-
-  pub words-worded : Worded Words n
-  words-worded = subst (λ (m : ℕ). Worded (take (annotations-start m - header-length) (drop header-length s)) m) (sym counted) (worded s (header-of s) opening)
-
-  pub words-lines : lines Words n ≡ lines (words-of s) (count-of s)
-  words-lines =
-      ap (λ (w : List ℕ). lines w n) (words-to s opening (annotations-start n) (ap annotations-start counted)) ∙ ap (lines (words-of s)) counted
-
--- what is written, by the buffer's room
-module _ (s before : List ℕ) {n : ℕ} (counts : n ≡ open-count s) where
-  pub small : length before < longest-line * n + longest-verdict → Listed s before before 0
-  unfolding listing-room
-  small h =
-      let l : length before < listing-room s = subst (λ (m : ℕ). length before < longest-line * m + longest-verdict) counts h in
-      same-text (sym (ap (λ (b : Bool). choose b (listing s) []) (lt-leb (listing-room s) (length before) l))) (record { counts = refl; fills = refl })
-
-  pub large : longest-line * n + longest-verdict ≤ length before → {after : List ℕ} {r : ℕ} → Put (listing s) before after r → Listed s before after r
-  unfolding listing-room
-  large h p =
-      let l : listing-room s ≤ length before = subst (λ (m : ℕ). longest-line * m + longest-verdict ≤ length before) counts h in
-      same-text (sym (ap (λ (b : Bool). choose b (listing s) []) (le-leb (listing-room s) (length before) l))) p
+-- a container whose words all read opens
+pub opening : (s : List ℕ) → all-read s ≡ passes → Opens s
+opening s all = opening-of s (opens s all)

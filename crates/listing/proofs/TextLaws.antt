@@ -57,3 +57,10 @@ length-put {x} {before} p h =
 
 pub same-text : {x y before after : List ℕ} {r : ℕ} → x ≡ y → Put x before after r → Put y before after r
 same-text e p = rw e at p
+
+-- the text can be read back from the front
+pub put-front : {x before after : List ℕ} {r : ℕ} → Put x before after r → take r after ≡ x
+put-front {x} {before} {r = r} p = ap (take r) (p .fills) ∙ take-at x (drop (length x) before) r (sym (p .counts))
+
+pub put-room : {x before after : List ℕ} {r : ℕ} → Put x before after r → r ≤ length after
+put-room {x} {before} p = rw (p .fills) (simp length-append (omega (arith, p .counts)))

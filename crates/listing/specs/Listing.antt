@@ -1,39 +1,39 @@
--- What the lister writes for a container's bytes (paper 01, "The lister").
+-- What the lister writes for a container's bytes (01, The lister).
 use mathlib.Core.Bool.{Bool, true}
 use mathlib.Core.List.{List, [], _∷_, _++_}
 use Prim.Native.Nat.{ℕ, zero, suc, _+_, _*_}
 use lib.Dec.{leb}
-use lib.ListN.{length}
-use Rattle.bits.specs.Fields.{choose}
 use Rattle.bits.specs.Bytes.{little}
 use Rattle.bits.specs.Outcomes.{Outcome, gives, refuses, _then_}
 use Rattle.record.specs.declared.instruction.Instruction.{Instruction}
 use Rattle.record.specs.declared.answer.Refusal.{Refusal}
 use Rattle.rows.specs.Names.{ascii, name-of, name-width}
-use Rattle.reader.specs.Reader.{read}
-use Rattle.container.specs.Container.{count-of, words-of, eight}
+use Rattle.reader.specs.Reader.{read-number}
+use Rattle.container.specs.Container.{most-instructions, count-of, words-of, eight}
 use Rattle.container.specs.Opening.{open-outcome}
-use Rattle.container.specs.Words.{open-count}
 use Rattle.verifier.specs.Verdict.{Judgement, first, judge-opening, judge-word, verdict-of}
-use Rattle.listing.specs.Text.{space, line-feed, decimal, hex, Put}
+use Rattle.listing.specs.Text.{space, line-feed, decimal, hex}
 
--- "the name"; none for a word that does not read, which no line is written for
+-- the name of what a word says; none for a word that does not read, which no line is written for
 abbrev pub name-in : Outcome Refusal Instruction → List ℕ
 name-in (gives x) = name-of (x .row)
 name-in (refuses _) = []
 
--- the line of the word at index i: "four decimal digits of index, the word as 16 upper-case hex digits, the name", with spaces between;
--- "Each line ends in a line feed"
-unfoldable pub line : List ℕ → ℕ → List ℕ
-line words i =
-    decimal 4 i ++ (space ∷ hex 16 (little (eight words i))) ++ (space ∷ name-in (read (eight words i))) ++ (line-feed ∷ [])
+-- the line of the word w at index i: the index in four decimal digits, the word in 16 hexadecimal digits and the name, with a space between,
+-- and a line feed at the end
+unfoldable pub line : ℕ → ℕ → List ℕ
+line i w = decimal 4 i ++ (space ∷ hex 16 w) ++ (space ∷ name-in (read-number w)) ++ (line-feed ∷ [])
+
+-- the word at index i of some words
+abbrev pub word-in : List ℕ → ℕ → ℕ
+word-in words i = little (eight words i)
 
 -- the lines of the first n words
 unfoldable pub lines : List ℕ → ℕ → List ℕ
 lines words zero = []
-lines words (suc n) = lines words n ++ line words n
+lines words (suc n) = lines words n ++ line n (word-in words n)
 
--- `ACCEPTED`, or `REFUSED` with "number and register in two decimal digits, index in four" ("number, index, register")
+-- `ACCEPTED`, or `REFUSED` with the number in two decimal digits, the index in four and the register in two; then a line feed
 unfoldable pub verdict-line : Judgement → List ℕ
 verdict-line (gives _) = ascii "ACCEPTED" ++ (line-feed ∷ [])
 verdict-line (refuses f) =
@@ -43,7 +43,7 @@ verdict-line (refuses f) =
     ++ (space ∷ decimal 2 (f .register))
     ++ (line-feed ∷ [])
 
--- whether it is "a parcel whose words all read": passes, or the first refusal of opening and reading
+-- whether it is a container whose words all read: passes, or the first refusal of opening and reading
 unfoldable pub all-read : List ℕ → Judgement
 all-read s = judge-opening (open-outcome s) then first (judge-word (words-of s)) (count-of s)
 
@@ -52,12 +52,12 @@ unfoldable pub lists : Judgement → Bool
 lists (gives _) = true
 lists (refuses f) = leb 20 (f .number)
 
--- "For a parcel whose words all read, a line each"; "Otherwise the verdict only."
+-- a text that is there only where all words read
 abbrev pub where-read : Judgement → List ℕ → List ℕ
 where-read (gives _) text = text
 where-read (refuses _) text = []
 
--- "Then the verdict."
+-- the lines, where all words read, and then the verdict
 unfoldable pub listing : List ℕ → List ℕ
 listing s = where-read (all-read s) (lines (words-of s) (count-of s)) ++ verdict-line (verdict-of s)
 
@@ -68,10 +68,6 @@ longest-line = 4 + 1 + 16 + 1 + name-width + 1
 abbrev pub longest-verdict : ℕ
 longest-verdict = 7 + 1 + 2 + 1 + 4 + 1 + 2 + 1
 
--- room for any listing of as many instructions
-unfoldable pub listing-room : List ℕ → ℕ
-listing-room s = longest-line * open-count s + longest-verdict
-
--- writing a listing into a buffer: the listing is put at its front; where the buffer has less room than that, nothing is
-abbrev pub Listed : List ℕ → List ℕ → List ℕ → ℕ → Type 0
-Listed s before after r = Put (choose (leb (listing-room s) (length before)) (listing s) []) before after r
+-- and the most that any listing has
+abbrev pub longest-listing : ℕ
+longest-listing = longest-line * most-instructions + longest-verdict

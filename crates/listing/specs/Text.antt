@@ -12,7 +12,7 @@ space = 32
 abbrev pub line-feed : ℕ
 line-feed = 10
 
--- a digit of a base up to 16: 0 to 9, then A to F ("upper-case")
+-- a digit of a base up to 16: 0 to 9, then A to F in upper case
 abbrev pub digit : ℕ → ℕ
 digit d = choose (ltb d 10) (48 + d) (55 + d)
 

@@ -2,21 +2,23 @@
 use crate::text::put_byte;
 use crate::text::put_digits;
 use crate::text::put_spaced;
-use bits::bytes::load64;
-use container::layout::WORD_LENGTH;
+use container::view::Fetched;
+use container::view::open_count;
+use container::view::word_of;
 use reader::answer::Reading;
+use reader::read_number;
 use record::instruction::Instruction;
 use rows::names::WIDTH;
-use verifier::program::reading_at;
 ghost use mathlib.Core.Path.{_≡_};
 ghost use mathlib.Core.List.{_∷_};
 ghost use Prim.Native.Nat.{_+_, _*_, _<_, _≤_};
 ghost use lib.ListN.{length};
 ghost use Rattle.reader.specs.Answers.{reading};
 ghost use Rattle.rows.specs.Names.{name-of, name-width, names as all-names};
-ghost use Rattle.verifier.specs.Program.{Worded};
+ghost use Rattle.container.specs.Container.{count-of, words-of};
+ghost use Rattle.container.specs.Opening.{Opens};
 ghost use Rattle.listing.specs.Text.{space, Put};
-ghost use Rattle.listing.specs.Listing.{name-in, line, lines, longest-line};
+ghost use Rattle.listing.specs.Listing.{name-in, line, word-in, lines, longest-line};
 
 // The most bytes that a line has.
 pub(crate) const LONGEST: usize = 4 + 1 + 16 + 1 + WIDTH + 1;
@@ -55,15 +57,12 @@ fn put_reading(names: &Names, r: Reading, out: &mut [u8]) -> usize
     }
 }
 
-// The line of word i of n.
-fn put_line(names: &Names, words: &[u8], n: usize, i: usize, out: &mut [u8]) -> usize
-    requires { ⌜ Worded (now words) n × (i < n) × (now names ≡ all-names) × (longest-line ≤ length (now out)) ⌝ }
-    ensures { λ r. ⌜ Put (line (now (words .entry)) i) (now (out .entry)) (now (out .exit)) r × (r ≤ longest-line) ⌝ }
+// The line of word w at index i.
+fn put_line(names: &Names, i: usize, w: u64, out: &mut [u8]) -> usize
+    requires { ⌜ (now names ≡ all-names) × (longest-line ≤ length (now out)) ⌝ }
+    ensures { λ r. ⌜ Put (line i w) (now (out .entry)) (now (out .exit)) r × (r ≤ longest-line) ⌝ }
 {
-    let start = WORD_LENGTH * i;
-    let end = start + WORD_LENGTH;
-    let w = load64(&words[start..end]);
-    let r = reading_at(words, n, i);
+    let r = read_number(w);
     let mut at = put_digits(i as u64, 10, 4, out);
     at += put_spaced(w, 16, 16, &mut out[at..]);
     at += put_reading(names, r, &mut out[at..]);
@@ -71,15 +70,28 @@ fn put_line(names: &Names, words: &[u8], n: usize, i: usize, out: &mut [u8]) -> 
     at
 }
 
-// The lines of n words.
-pub(crate) fn put_lines(names: &Names, words: &[u8], n: usize, out: &mut [u8]) -> usize
-    requires { ⌜ Worded (now words) n × (now names ≡ all-names) × (longest-line * n ≤ length (now out)) ⌝ }
-    ensures { λ r. ⌜ Put (lines (now (words .entry)) n) (now (out .entry)) (now (out .exit)) r × (r ≤ longest-line * n) ⌝ }
+// The line of the word at index i of a container.
+fn put_word(names: &Names, bytes: &[u8], i: usize, out: &mut [u8]) -> usize
+    requires { ⌜ Opens (now bytes) × (i < count-of (now bytes)) × (now names ≡ all-names) × (longest-line ≤ length (now out)) ⌝ }
+    ensures { λ r. ⌜ Put (line i (word-in (words-of (now (bytes .entry))) i)) (now (out .entry)) (now (out .exit)) r × (r ≤ longest-line) ⌝ }
 {
+    match word_of(bytes, i) {
+        Fetched::Word(w) => put_line(names, i, w, out),
+        Fetched::Missing(_) => 0,
+    }
+}
+
+// The lines of a container's words.
+pub(crate) fn put_lines(bytes: &[u8], out: &mut [u8]) -> usize
+    requires { ⌜ Opens (now bytes) × (longest-line * count-of (now bytes) ≤ length (now out)) ⌝ }
+    ensures { λ r. ⌜ Put (lines (words-of (now (bytes .entry))) (count-of (now (bytes .entry)))) (now (out .entry)) (now (out .exit)) r × (r ≤ longest-line * count-of (now (bytes .entry))) ⌝ }
+{
+    let names = rows::names::all();
+    let n = open_count(bytes);
     let mut at = 0;
     let mut i = 0;
     while i < n {
-        at += put_line(names, words, n, i, &mut out[at..]);
+        at += put_word(&names, bytes, i, &mut out[at..]);
         i += 1;
     }
     at

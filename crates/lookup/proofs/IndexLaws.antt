@@ -189,21 +189,19 @@ pub line-led : (w : ℕ) {l : Line} → l ≡ line-of (candidate w) → l ≡ li
 line-led w e = e ∙ ap line-of (candidate-found w)
 
 -- a word of its group's opcode leads to a cell of the group, any other to an empty one
-pub leads-in : (w : ℕ) {o : ℕ} {g : Group} → o ≡ bits w 48 9 → g ≡ group-at (o * 11 / 2 % 64) → o ≡ g .opcode → {l : Line} → l ≡ line-of (row-under (cell-in g w))
-    → l ≡ line-of (candidate w)
-leads-in w {o} {g} eo eg h el =
-    el
-    ∙ ap (λ (b : Bool). line-of (row-under (choose b (cell-in g w) empty))) (sym (eq-eqb o (g .opcode) h))
-    ∙ ap (λ (x : Group). line-of (row-under (cell-of x o w))) eg
-    ∙ ap (λ (x : ℕ). line-of (row-under (cell-of (group-of x) x w))) eo
+module _ (w : ℕ) {o : ℕ} {g : Group} (eo : o ≡ bits w 48 9) (eg : g ≡ group-at (o * 11 / 2 % 64)) {l : Line} where
+  leads-by : {b : Bool} → eqb o (g .opcode) ≡ b → l ≡ line-of (row-under (choose b (cell-in g w) empty)) → l ≡ line-of (candidate w)
+  leads-by eb el =
+      el
+      ∙ ap (λ (b : Bool). line-of (row-under (choose b (cell-in g w) empty))) (sym eb)
+      ∙ ap (λ (x : Group). line-of (row-under (cell-of x o w))) eg
+      ∙ ap (λ (x : ℕ). line-of (row-under (cell-of (group-of x) x w))) eo
 
-pub leads-out : (w : ℕ) {o : ℕ} {g : Group} → o ≡ bits w 48 9 → g ≡ group-at (o * 11 / 2 % 64) → (o ≡ g .opcode → ⊥) → {l : Line} → l ≡ line-of (row-under empty)
-    → l ≡ line-of (candidate w)
-leads-out w {o} {g} eo eg n el =
-    el
-    ∙ ap (λ (b : Bool). line-of (row-under (choose b (cell-in g w) empty))) (sym (ne-eqb o (g .opcode) n))
-    ∙ ap (λ (x : Group). line-of (row-under (cell-of x o w))) eg
-    ∙ ap (λ (x : ℕ). line-of (row-under (cell-of (group-of x) x w))) eo
+  pub leads-in : o ≡ g .opcode → l ≡ line-of (row-under (cell-in g w)) → l ≡ line-of (candidate w)
+  leads-in h = leads-by (eq-eqb o (g .opcode) h)
+
+  pub leads-out : (o ≡ g .opcode → ⊥) → l ≡ line-of (row-under empty) → l ≡ line-of (candidate w)
+  leads-out n = leads-by (ne-eqb o (g .opcode) n)
 
 -- ---- the groups have few cells
 

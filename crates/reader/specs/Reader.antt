@@ -1,4 +1,4 @@
--- Reading a word, and the order of its refusals: 1, 2, 3, 4, 5, 6, 7 (paper 01, "Numbers given back").
+-- Reading a word, and the order of its refusals: 1, 2, 3, 4, 5, 6, 7 (01, Numbers given back).
 use mathlib.Core.Bool.{Bool, _&&_, not}
 use mathlib.Core.List.{List}
 use Prim.Native.Nat.{ℕ}

@@ -1,6 +1,7 @@
 -- The numbers that refusals of a record have. Assumes nothing.
 use mathlib.Core.Path.{_≡_, refl}
 use mathlib.Core.List.{List, [], _∷_}
+use mathlib.Core.Logic.{_⊎_, inl, inr}
 use Prim.Native.Nat.{ℕ, suc}
 use lib.Dec.{ltb, lit≤}
 use Rattle.bits.proofs.OutcomeLaws.{Refusals, of-gives, of-then, on, weaker, Between, wider}
@@ -40,12 +41,16 @@ judge-numbers r i =
     (modifiers-numbers r modifier-places (modifier-list (i .modifiers)))
     (sources-numbers r (i .page) 0 (source-list (i .sources)))))
 
-pub instruction-numbers : (i : Instruction) → Refusals (Numbered 2 9) (judge-instruction i)
+-- the refusal's number is one of those that writing gives: all from 2 to 9 but 3
+abbrev pub OfWriting : Refusal → Type 0
+OfWriting f = (f .number ≡ 2) ⊎ Numbered 4 9 f
+
+pub instruction-numbers : (i : Instruction) → Refusals OfWriting (judge-instruction i)
 unfolding judge-instruction
 instruction-numbers i =
-    on (Numbered 2 9) (ltb (i .row) row-count) (refusal 2 0) (lit≤ tt, lit≤ tt)
-    (on (Numbered 2 9) (roomy (row-of (i .row)) i) (refusal 9 0) (lit≤ tt, lit≤ tt)
-    (weaker (λ (f : Refusal) (n : Numbered 4 7 f). wider (lit≤ tt) (lit≤ tt) n) (judge-numbers (row-of (i .row)) i)))
+    on OfWriting (ltb (i .row) row-count) (refusal 2 0) (inl refl)
+    (on OfWriting (roomy (row-of (i .row)) i) (refusal 9 0) (inr (lit≤ tt, lit≤ tt))
+    (weaker (λ (f : Refusal) (n : Numbered 4 7 f). inr (wider (lit≤ tt) (lit≤ tt) n)) (judge-numbers (row-of (i .row)) i)))
 
 abbrev IsTwo : Refusal → Type 0
 IsTwo f = f .number ≡ 2

@@ -1,5 +1,5 @@
--- The default instruction of a row (the paper's fresh record; paper 01, "The 77 rows", last part): page and flow 0, destination full r0 where
--- there is one, and of every source and modifier the default of its kind.
+-- The default instruction of a row is the paper's fresh record (01, The 77 rows, last part): page and flow are 0, a destination is all of
+-- r0, and each source and modifier has the default of its kind.
 use mathlib.Core.List.{map}
 use Prim.Native.Nat.{ℕ}
 use lib.Dec.{ltb}

@@ -1,4 +1,4 @@
--- Decoded instructions (the paper's records) and the numbers of their words (paper 01, "The 77 rows", last part).
+-- Decoded instructions (the paper's records) and the numbers of their words (01, The 77 rows, last part).
 use mathlib.Core.List.{List, [], _∷_, map}
 use Prim.Native.Nat.{ℕ}
 use lib.Dec.{eqb}
@@ -23,8 +23,8 @@ offset-of n = signed 67108864 n
 abbrev pub number-in : ℕ → ℕ → Place → ℕ
 number-in k w p = bits w (low p) (width (kind-at (row-of k) p))
 
--- what a word of row k says: a record has the row number, page, flow, destination, sources, modifiers and the branch offset; a source is held
--- as its byte, the destination as register and half mask, and a place that the row does not use is 0
+-- what a word of row k says (01, The 77 rows, last part): the number at each place, and 0 at a place that the row does not use. A source
+-- stays a byte, a destination is two numbers, and the branch offset has its sign.
 abbrev pub instruction-of : ℕ → ℕ → Instruction
 instruction-of k w =
     record {

@@ -1,4 +1,4 @@
--- What is legal in a record (paper 01, refusals 2 to 9), for reading and for writing.
+-- What is legal in a record (01, Numbers given back: 2 to 9), for reading and for writing.
 use mathlib.Core.Bool.{Bool, true, _&&_}
 use mathlib.Core.List.{List, [], _∷_, map}
 use Prim.Native.Nat.{ℕ, suc}

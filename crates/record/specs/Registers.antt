@@ -1,4 +1,4 @@
--- What an instruction does to registers and where it goes (paper 01, "How registers are held"), for any record.
+-- What an instruction does to registers and where it goes (01, How registers are held), for any record.
 use mathlib.Core.Bool.{Bool, _&&_}
 use Prim.Native.Nat.{ℕ, _%_, _^_}
 use lib.Dec.{ltb, leb, eqb}
@@ -33,11 +33,11 @@ reads i = sources-set reads-register i
 unfoldable pub kills : Instruction → ℕ
 kills i = sources-set kills-register i
 
--- the destination, if the half mask is 3
+-- what it fully writes: its destination, where both halves are written
 unfoldable pub defines : Instruction → ℕ
 defines i = choose (row-of (i .row) .destination && eqb (i .«half_mask») 3) (single (i .register)) 0
 
--- flow `end` has no successor, whatever the opcode
+-- with flow `end` nothing follows, not even where BRANCHZ has it
 abbrev pub ends : Instruction → Bool
 ends i = eqb (i .flow) 15
 

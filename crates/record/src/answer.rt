@@ -1,6 +1,6 @@
 use crate::instruction::Instruction;
 
-// One numbered refusal, with its place (0 where none is named).
+// One numbered refusal, with its place, which is 0 also where there is none.
 pub struct Refusal {
     pub number: u8,
     pub place: u8,

@@ -41,7 +41,7 @@ pub row-apart : (k : ℕ) → k < row-count → Apart 0 (slots (row-of k))
 unfolding apart-test
 row-apart k h = apart-rule 0 (slots (row-of k)) (at apart-test rows no-row all-apart k (in-table k h))
 
--- ---- no word fits two rows: one test of all pairs, carried to each pair
+-- ---- rows that fit the same word are the same: one test of all pairs, carried to each pair
 
 differ : Row → Row → Bool
 differ a b =

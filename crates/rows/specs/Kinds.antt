@@ -1,4 +1,4 @@
--- What a field of a word may hold (paper 01, "The frame" and "Fields").
+-- What a field of a word may hold (01, The frame).
 use mathlib.Core.Bool.{Bool, false, _&&_, _||_}
 use mathlib.Core.List.{List, [], _∷_}
 use Prim.Native.Nat.{ℕ}
@@ -72,39 +72,39 @@ modifier n l d = record { width = n; legal = l; default = d }
 abbrev pub free : ℕ → About
 free n = record { width = n; legal = []; default = 0 }
 
--- "H = 2, W16 = 2, mux = 1, all else 0" are the defaults
+-- the defaults are 0, but 2 for H and W16, 1 for mux, and 3, the whole register, for the half mask (01, The 77 rows)
 abbrev pub about : Kind → About
 about absent = record { width = 0; legal = only 0 ∷ []; default = 0 }
 about flag = modifier 1 (0 to 1 ∷ []) 0
 about two-bits = modifier 2 (0 to 3 ∷ []) 0
--- "3 is refused"
+-- F has three values
 about widen = modifier 2 (0 to 2 ∷ []) 0
--- "all legal"
+-- all four values of H are legal
 about swizzle-half = modifier 2 (0 to 3 ∷ []) 2
--- "W32: 0, 2-7 legal; W16: 0-13; W8: 0-11."
+-- of 16 values W32 lacks 1 and all from 8 up, W16 the last two, W8 the last four
 about swizzle-32 = modifier 4 (only 0 ∷ 2 to 7 ∷ []) 0
 about swizzle-16 = modifier 4 (0 to 13 ∷ []) 2
 about swizzle-8 = modifier 4 (0 to 11 ∷ []) 0
 about half-swizzle = modifier 4 (0 to 15 ∷ []) 0
 about condition = modifier 3 (0 to 7 ∷ []) 0
--- "only 0-5 legal"
+-- I ends with 5
 about integer-condition = modifier 3 (0 to 5 ∷ []) 0
 about mux = modifier 2 (0 to 3 ∷ []) 1
--- "combine 37-39 (0-4 legal)"
+-- combine ends with 4
 about combine = modifier 3 (0 to 4 ∷ []) 0
--- "NaN mode 8-9 (0-2 legal)"
+-- the NaN mode ends with 2
 about nan-mode = modifier 2 (0 to 2 ∷ []) 0
 -- which bytes are legal is said by their meaning (Sources)
 about source = free 8
 about offset = free 27
 about (second n) = free n
 about register = free 6
--- "1 low, 2 high, 3 full; 0 is refused"
+-- a half mask has a bit for each half, the low one first; a mask of no half is refused
 about half-mask = record { width = 2; legal = 1 to 3 ∷ []; default = 3 }
 about opcode = free 9
--- "The page is legal, and kept, when no source uses it."
+-- any page is legal; one that no source uses is kept all the same
 about page = free 2
--- "Flow is 002's "Flow" in order: 11, 12 and 14 are reserved, 15 is `end`."
+-- 002's "Flow", numbered from 0; reserved are 11, 12 and 14; `end` is 15
 about flow = record { width = 4; legal = 0 to 10 ∷ only 13 ∷ only 15 ∷ []; default = 0 }
 
 abbrev pub width : Kind → ℕ

@@ -1,5 +1,5 @@
--- Where the fields of a row's word stand (paper 01, "The frame" and "Fields"). Every row has the same places, ordered by lowest bit; a row
--- only decides what stands there, and what is absent has no bits.
+-- Where the fields of a row's word stand (01, The frame). Every row has the same places, ordered by lowest bit; a row only decides what
+-- stands there, and what is absent has no bits.
 use mathlib.Core.Bool.{Bool, true, false, _&&_}
 use mathlib.Core.List.{List, [], _∷_, map}
 use Prim.Native.Nat.{ℕ, suc, _*_}

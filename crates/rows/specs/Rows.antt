@@ -1,4 +1,4 @@
--- The 77 rows of the instruction table (paper 01, "The 77 rows, in this order, numbered from 0").
+-- The 77 rows of the instruction table in the paper's order (01, The 77 rows).
 use mathlib.Core.Bool.{Bool, true, false}
 use mathlib.Core.List.{List, [], _∷_, _++_}
 use Prim.Native.Nat.{ℕ, zero, suc, _-_, _*_}
@@ -29,11 +29,11 @@ pub record Row : Type 0 where
   pub offset : Bool
   pub modifiers : List Modifier
 
--- "A secondary opcode (after the slash) starts at bit 16 for one or two sources, 24 for three."
+-- the lowest bit of a secondary opcode (01, The frame): past the bytes of sources 0 and 1, or of all three where the row has three
 abbrev pub low-of-second : ℕ → ℕ
 low-of-second sources = choose (leb sources 2) 16 24
 
--- "It is 4 bits wide, but 5 for opcode 0x90 and 2 for opcodes 0xF0-0xF2, 0xF4, 0xF5, 0xF8-0xFA."
+-- and its width (01, The frame): 5 bits for the conversions' opcode, 2 for those of the comparisons, else 4
 abbrev pub width-of-second : ℕ → ℕ
 width-of-second opcode = choose (eqb opcode 0x90) 5 (choose (within (0xF0 to 0xF2 ∷ 0xF4 to 0xF5 ∷ 0xF8 to 0xFA ∷ []) opcode) 2 4)
 
@@ -66,7 +66,7 @@ plain name opcode sources ms =
       modifiers = ms;
     }
 
--- a row with a secondary opcode, "opcode/secondary"
+-- a row with a secondary opcode, which 01 writes after a slash
 abbrev pub row : String → ℕ → ℕ → ℕ → List Modifier → Row
 row name opcode second sources ms =
     record {
@@ -87,18 +87,18 @@ one name opcode second ms = row name opcode second 1 ms
 abbrev pub three : String → ℕ → ℕ → List Modifier → Row
 three name opcode second ms = row name opcode second 3 ms
 
--- "Fields, for source k": "N: negate at 38 - 2k, absolute at 39 - 2k."
+-- the fields that belong to source k (01, The frame). N: a bit for negate and, above it, one for absolute
 abbrev pub N : ℕ → List Modifier
 N k = md (38 - 2 * k) flag ∷ md (39 - 2 * k) flag ∷ []
 
--- "F: two bits at 28 - 2k"; "H: the same place"
+-- F and H share a place of two bits
 abbrev pub F : ℕ → List Modifier
 F k = md (28 - 2 * k) widen ∷ []
 
 abbrev pub H : ℕ → List Modifier
 H k = md (28 - 2 * k) swizzle-half ∷ []
 
--- "W32, W16, W8: four bits at 36 for source 0, at 26 for source 1."
+-- the lowest of the four bits of W32, W16 and W8, which only sources 0 and 1 have
 abbrev pub low-of-swizzle : ℕ → ℕ
 low-of-swizzle zero = 36
 low-of-swizzle (suc k) = 26
@@ -112,7 +112,7 @@ W16 k = md (low-of-swizzle k) swizzle-16 ∷ []
 abbrev pub W8 : ℕ → List Modifier
 W8 k = md (low-of-swizzle k) swizzle-8 ∷ []
 
--- "R: round mode 30-31. C: condition 32-34. I: the same, only 0-5 legal. T: result type 30-31. X: mux 32-33." (T is written Ty.)
+-- the fields that belong to no source: R, the round mode; C, a condition; I, one of integers; T, the result type, here Ty; X, the mux
 abbrev pub R : List Modifier
 R = md 30 two-bits ∷ []
 
@@ -128,8 +128,8 @@ Ty = md 30 two-bits ∷ []
 abbrev pub X : List Modifier
 X = md 32 mux ∷ []
 
--- "No destination: `NOP` 0x00, no source. `BRANCHZ` 0x1F, one source, combine 37-39 (0-4 legal), eq 36, conservative 35, signed offset
--- 8-34. `DISCARD.f32` 0x20, two sources NF, C."
+-- the rows without a destination. BRANCHZ is the only one of all that has an offset, in bits 8 to 34; above it stand conservative, eq and
+-- combine.
 abbrev pub branchz : Row
 branchz =
     record {
@@ -151,17 +151,17 @@ without-destination =
     ∷ bare "DISCARD.f32" 0x20 2 (N 0 ++ F 0 ++ N 1 ++ F 1 ++ C)
     ∷ []
 
--- "Four plain sources, C"
+-- four sources without fields, and C
 abbrev pub selects : List Row
 selects =
     plain "CSEL.f32" 0x154 4 C
     ∷ plain "CSEL.v2f16" 0x155 4 C
     ∷ []
 
--- "0x90, one source."
+-- opcode 0x90, one source
 abbrev pub conversions : List Row
 conversions =
-    -- "R, W16"; "R, W32"; "H"
+    -- R and W16; R and W32; H alone
     one "V2S16_TO_V2F16" 0x90 0x7 (R ++ W16 0)
     ∷ one "V2U16_TO_V2F16" 0x90 0x17 (R ++ W16 0)
     ∷ one "S32_TO_F32" 0x90 0x9 (R ++ W32 0)
@@ -170,7 +170,7 @@ conversions =
     ∷ one "S16_TO_F32" 0x90 0x5 (H 0)
     ∷ one "U16_TO_U32" 0x90 0x14 (H 0)
     ∷ one "U16_TO_F32" 0x90 0x15 (H 0)
-    -- "R, N"; "R, N, H"; "R, N, lane bit 28"
+    -- R and N; these and H; these and a lane of one bit
     ∷ one "F32_TO_S32" 0x90 0xC (R ++ N 0)
     ∷ one "F32_TO_U32" 0x90 0x1C (R ++ N 0)
     ∷ one "V2F16_TO_V2S16" 0x90 0xE (R ++ N 0 ++ H 0)
@@ -178,7 +178,7 @@ conversions =
     ∷ one "F16_TO_S32" 0x90 0xA (R ++ N 0 ++ H 0)
     ∷ one "F16_TO_U32" 0x90 0x1A (R ++ N 0 ++ H 0)
     ∷ one "F16_TO_F32" 0x90 0xB (R ++ N 0 ++ (md 28 flag ∷ []))
-    -- "Lane 28-29"; "Half-swizzle 36-39"
+    -- a lane of two bits; a half-swizzle
     ∷ one "S8_TO_S32" 0x90 0x0 (md 28 two-bits ∷ [])
     ∷ one "S8_TO_F32" 0x90 0x1 (md 28 two-bits ∷ [])
     ∷ one "U8_TO_U32" 0x90 0x10 (md 28 two-bits ∷ [])
@@ -187,12 +187,12 @@ conversions =
     ∷ one "V2S8_TO_V2F16" 0x90 0x3 (md 36 half-swizzle ∷ [])
     ∷ one "V2U8_TO_V2U16" 0x90 0x12 (md 36 half-swizzle ∷ [])
     ∷ one "V2U8_TO_V2F16" 0x90 0x13 (md 36 half-swizzle ∷ [])
-    -- "R, N, F"; "R, N, H"
+    -- R and N, and F or H
     ∷ one "FROUND.f32" 0x90 0xD (R ++ N 0 ++ F 0)
     ∷ one "FROUND.v2f16" 0x90 0xF (R ++ N 0 ++ H 0)
     ∷ []
 
--- "0x91, one source"
+-- opcode 0x91, one source
 abbrev pub moves : List Row
 moves =
     one "MOV.i32" 0x91 0 []
@@ -207,7 +207,7 @@ moves =
     ∷ one "NOT_OLD.i32" 0x91 0xE []
     ∷ []
 
--- "0x98, one source N, NaN mode 8-9 (0-2 legal), ftz 10, flush_inf 11"
+-- opcode 0x98, one source with N; from bit 8 up NaN mode, ftz and flush_inf
 abbrev pub flush-modifiers : List Modifier
 flush-modifiers = md 8 nan-mode ∷ md 10 flag ∷ md 11 flag ∷ []
 
@@ -217,7 +217,7 @@ flushes =
     ∷ one "FLUSH.v2f16" 0x98 1 (N 0 ++ H 0 ++ flush-modifiers)
     ∷ []
 
--- "0x9C, one source. N, F: ..; Plain: .."
+-- opcode 0x9C, one source: first the rows with N and F, then those without fields
 abbrev pub functions : List Row
 functions =
     one "FRCP.f32" 0x9C 0 (N 0 ++ F 0)
@@ -233,14 +233,14 @@ functions =
     ∷ one "FEXP_TABLE.u4" 0x9C 13 []
     ∷ []
 
--- "Two sources N, clamp 32-33"
+-- two sources with N, and a clamp
 abbrev pub additions : List Row
 additions =
     row "FADD.f32" 0xA4 0 2 (N 0 ++ N 1 ++ (md 32 two-bits ∷ []) ++ F 0 ++ F 1)
     ∷ row "FADD.v2f16" 0xA5 0 2 (N 0 ++ N 1 ++ (md 32 two-bits ∷ []) ++ H 0 ++ H 1)
     ∷ []
 
--- "Three sources, X"
+-- three sources, and X
 abbrev pub muxes : List Row
 muxes =
     plain "MUX.i32" 0xB8 3 X
@@ -248,8 +248,7 @@ muxes =
     ∷ plain "MUX.v4i8" 0xBA 3 X
     ∷ []
 
--- "Three sources: `CUBE_SSEL` 0xBC/0 and `CUBE_TSEL` 0xBC/1 (N on the first two); `CUBEFACE1` 0xC0, `CUBEFACE2_V9` 0xC1 (N on all);
--- `IDP.v4s8` 0xC2/0, `IDP.v4u8` 0xC2/1 (saturate 30)."
+-- three sources: the first two rows have N on sources 0 and 1, the next two on each source, the last two on none, but saturate
 abbrev pub cubes : List Row
 cubes =
     three "CUBE_SSEL" 0xBC 0 (N 0 ++ N 1)
@@ -260,22 +259,22 @@ cubes =
     ∷ three "IDP.v4u8" 0xC2 1 (md 30 flag ∷ [])
     ∷ []
 
--- "Three sources, the third plain; in each list all OR rows before the AND rows."
+-- three sources, of which the last has no fields; in each of the groups OR comes first, in all types, then AND
 abbrev pub comparisons : List Row
 comparisons =
-    -- "I, T: `ICMP_OR` /0 then `ICMP_AND` /1, each `.u32` 0xF0 (W32), `.v2u16` 0xF1 (W16), `.v4u8` 0xF2 (W8)."
+    -- unsigned: I, T and the swizzle of the type's width
     three "ICMP_OR.u32" 0xF0 0 (I ++ Ty ++ W32 0 ++ W32 1)
     ∷ three "ICMP_OR.v2u16" 0xF1 0 (I ++ Ty ++ W16 0 ++ W16 1)
     ∷ three "ICMP_OR.v4u8" 0xF2 0 (I ++ Ty ++ W8 0 ++ W8 1)
     ∷ three "ICMP_AND.u32" 0xF0 1 (I ++ Ty ++ W32 0 ++ W32 1)
     ∷ three "ICMP_AND.v2u16" 0xF1 1 (I ++ Ty ++ W16 0 ++ W16 1)
     ∷ three "ICMP_AND.v4u8" 0xF2 1 (I ++ Ty ++ W8 0 ++ W8 1)
-    -- "C, T, N: `FCMP_OR` /0 then `FCMP_AND` /1, each `.f32` 0xF4 (F), `.v2f16` 0xF5 (H)."
+    -- floating-point: C, T and N, and F or H by width
     ∷ three "FCMP_OR.f32" 0xF4 0 (C ++ Ty ++ N 0 ++ N 1 ++ F 0 ++ F 1)
     ∷ three "FCMP_OR.v2f16" 0xF5 0 (C ++ Ty ++ N 0 ++ N 1 ++ H 0 ++ H 1)
     ∷ three "FCMP_AND.f32" 0xF4 1 (C ++ Ty ++ N 0 ++ N 1 ++ F 0 ++ F 1)
     ∷ three "FCMP_AND.v2f16" 0xF5 1 (C ++ Ty ++ N 0 ++ N 1 ++ H 0 ++ H 1)
-    -- "I, T: `ICMP_OR` /0 `.s32` 0xF8 (W32), `.v2s16` 0xF9 (W16), `.v4s8` 0xFA (W8)."
+    -- signed, OR only: the fields of the unsigned rows
     ∷ three "ICMP_OR.s32" 0xF8 0 (I ++ Ty ++ W32 0 ++ W32 1)
     ∷ three "ICMP_OR.v2s16" 0xF9 0 (I ++ Ty ++ W16 0 ++ W16 1)
     ∷ three "ICMP_OR.v4s8" 0xFA 0 (I ++ Ty ++ W8 0 ++ W8 1)

@@ -1,4 +1,4 @@
--- What a source byte means (paper 01, "Source byte"), with 002's immediates and special constants.
+-- What a source byte means (01, The frame), with 002's immediates and special constants.
 use mathlib.Core.Bool.{Bool, true, false, not}
 use mathlib.Core.List.{List, [], _∷_}
 use Prim.Native.Nat.{ℕ, _+_, _-_, _*_}
@@ -115,7 +115,7 @@ specials-3 =
 abbrev pub pages : List (List Special)
 pages = specials-0 ∷ specials-1 ∷ [] ∷ specials-3 ∷ []
 
--- value i of a page's enumeration: "any past the enumeration's end counts as" reserved
+-- value i of a page's enumeration; reserved where it has no such value
 abbrev pub special-at : ℕ → ℕ → Special
 special-at page i = getD (getD pages page []) i reserved
 
@@ -123,7 +123,7 @@ special-at page i = getD (getD pages page []) i reserved
 pub data Meaning : Type 0 where
   -- a register, read plainly
   register-read : ℕ → Meaning
-  -- a register, read and released (last use)
+  -- a register, read for the last time and released
   register-released : ℕ → Meaning
   uniform : ℕ → Meaning
   -- a constant with its 32-bit value
@@ -148,12 +148,13 @@ is-reserved program-counter = false
 abbrev pub special-meaning : Special → Meaning
 special-meaning s = choose (is-reserved s) refused (special s)
 
--- "Entries 0-31 are 002's Immediates on any page. Entry 32 + i, i from 0 to 15, is value i of the special enumeration of the current page."
+-- entry e of the constants on a page (01, The frame): below 32 an immediate, which is the same on all pages; from 32 up the special value
+-- e - 32 of the page
 abbrev pub constant-meaning : ℕ → ℕ → Meaning
 constant-meaning page e = choose (ltb e 32) (immediate (getD immediates e 0)) (special-meaning (special-at page (e - 32)))
 
--- "0-63 register, plain read; 64-127 register (byte minus 64), read and released (last use); 128-191 uniform, number = byte minus 128
--- plus 64 times the page; 192-255 constant entry 0-63 (byte minus 192)."
+-- what a byte means on a page (01, The frame). The 256 bytes are four runs of 64: registers read plainly; registers released; uniforms, of
+-- which each page has its own 64; the entries of the constants.
 unfoldable pub meaning : ℕ → ℕ → Meaning
 meaning page b =
     choose (ltb b 64) (register-read b)

@@ -180,7 +180,7 @@ fn lengths() {
     writes(b"into 9 bytes", i, &mut nine);
 }
 
-// FADD.f32 with a stray bit, a reserved flow, half mask 0, a refused widening and a refused source, mended one by one.
+// FADD.f32 with a stray bit, a reserved flow, an empty half mask, a refused widening and a refused source, mended one by one.
 fn faults() {
     reads_word(0xD8A40000300002FF);
     reads_word(0x58A40000300002FF);
@@ -208,7 +208,7 @@ fn row_default(row: usize) {
     text(b"\n");
 }
 
-// Whether writing the record read gives the word again.
+// Whether a record that was read is written as the same word.
 fn say_again(i: Instruction, word: [u8; 8]) {
     let mut again = [0u8; 8];
     write_word(i, &mut again);

@@ -11,13 +11,13 @@ use Rattle.record.specs.declared.answer.Refusal.{Refusal}
 use Rattle.reader.specs.Reader.{read}
 use Rattle.container.specs.declared.header.Header.{Header}
 use Rattle.container.specs.Container.{count-of, words-of, eight}
-use Rattle.container.specs.Opening.{open-outcome, Opens}
+use Rattle.container.specs.Opening.{Rejection, open-outcome, Opens}
 use Rattle.container.proofs.OpeningLaws.{sized, opened}
 use Rattle.walks.specs.Walks.{AllSafe}
 use Rattle.verifier.specs.Program.{machine, program-of, machine-of, WellFormed}
 use Rattle.verifier.specs.Verdict.{Judgement, first, judge-opening, judge-reading, judge-word, judge-program, verdict-of}
 use Rattle.verifier.specs.Demand3.{Demand3At, Demand3}
-use Rattle.walks.proofs.WalkLaws.{sound, complete, all-supplied}
+use Rattle.walks.proofs.WalkLaws.{sound, complete}
 use Rattle.verifier.proofs.VerdictLaws.{both, neither, first-of, first-to}
 use Rattle.verifier.proofs.ProgramLaws.{passes-of, passes-to, adds-dec, needs-fact, claims-fact, goes-on}
 
@@ -25,7 +25,7 @@ use Rattle.verifier.proofs.ProgramLaws.{passes-of, passes-to, adds-dec,
 pub opening-of : (s : List ℕ) → judge-opening (open-outcome s) ≡ passes → Opens s
 opening-of s e = go (open-outcome s) refl e
   where
-    go : (o : Outcome ℕ Header) → open-outcome s ≡ o → judge-opening o ≡ passes → Opens s
+    go : (o : Outcome Rejection Header) → open-outcome s ≡ o → judge-opening o ≡ passes → Opens s
     go (gives h) p q = opened s p
     go (refuses n) p q = never q
 
@@ -71,10 +71,9 @@ demand3 s t = record {
   complete = λ f all reached exact.
       accepts s f (passes-to (program-of s)
       (complete (machine-of s) (some s f) (adds-dec (program-of s)) (needs-fact (program-of s)) (claims-fact s t) all reached exact));
-  supplied = λ e. all-supplied (machine-of s) (safe s e .1);
   goes-on = λ e. goes-on (program-of s) (safe s e .1);
 }
 
 -- a judgement that agrees with the verdict meets the demand too
-pub agreed : (s : List ℕ) (v : Judgement) → T (areBytes s) → v ≡ verdict-of s → Demand3At s v
-agreed s v t e = subst (λ (x : Judgement). Demand3At s x) (sym e) (demand3 s t)
+pub agreed : (s : List ℕ) (v : Judgement) → T (areBytes s) → v ≡ verdict-of s → Demand3At s (v ≡ passes)
+agreed s v t e = subst (λ (x : Judgement). Demand3At s (x ≡ passes)) (sym e) (demand3 s t)

@@ -1,5 +1,4 @@
--- Demand 3 is met by no lazy check: not by one that always accepts, nor one that always refuses, nor one that inspects instruction 0 and
--- waves the rest through. Each fails at a container that is written out here. Assumes nothing.
+-- Demand 3 is met by no lazy check: not by one that always accepts, nor one that always refuses, nor one that looks at instruction 0 alone. Each fails at a container that is written out here. Assumes nothing.
 use mathlib.Core.Path.{_≡_, refl}
 use mathlib.Core.List.{List, [], _∷_, _++_, List·Memᴰ·head}
 use mathlib.Core.Logic.{⊎-elim}
@@ -27,6 +26,8 @@ use Rattle.walks.specs.Walks.{start, step, AllSafe, AllReached, Exact}
 use Rattle.verifier.specs.Program.{successors, after, machine, instruction-at, annotation-at, program-of, machine-of}
 use Rattle.verifier.specs.Verdict.{Judgement, first, each, none-missing, judge-opening, judge-word, judge-successor, judge-flow, judge-index, judge-program, verdict-of}
 use Rattle.verifier.specs.Demand3.{Demand3}
+use Rattle.verifier.specs.Lazy.{first-only, WavesThrough}
+use Rattle.walks.proofs.WalkLaws.{held}
 use Rattle.verifier.proofs.Demand3.{demand3}
 
 -- a container of n instructions, fewer than 256
@@ -86,7 +87,7 @@ bad-unsafe : ¬ AllSafe (machine-of bad)
 unfolding bad container none nop mov-end machine Has open-outcome version-of count-of entry-of words-of annotations-of little instruction-at annotation-at successors read read-row find rows places slots modifier-at lowest-stray lowest-from assigned judge judge-modifiers judge-sources unsigned signed meaning reads kills defines _then_
 bad-unsafe safe =
     ⊎-elim (λ a. nothing a) (λ b. nothing (b .0))
-    (safe (1 ∷ 0 ∷ []) (step start (List·Memᴰ·head refl) (omega arith)) .0 .needed 2 refl)
+    (held (machine-of bad) 1 (0 ∷ []) 2 (safe (1 ∷ 0 ∷ []) (step start (List·Memᴰ·head refl) (omega arith)) .0 .needed 2 refl))
 
 -- always yes
 pub always-yes : ¬ Demand3 (λ s. passes)
@@ -98,17 +99,10 @@ always-no f d =
     let a = demand3 good good-bytes .sound good-accepted in
     never (d good good-bytes .complete (a .0) (a .1) good-reached good-exact)
 
--- the verdict with only instruction 0 judged
-pub first-only : List ℕ → Judgement
-first-only s =
-    judge-opening (open-outcome s)
-    then first (judge-word (words-of s)) (count-of s)
-    then none-missing 23 0 (program-of s .annotation 0) (program-of s .entry)
-    then judge-index (program-of s) 0
-
 bad-passes : first-only bad ≡ passes
 unfolding bad container none nop mov-end first-only first each judge-program judge-flow judge-successor none-missing after minus open-outcome version-of count-of entry-of words-of annotations-of little instruction-at annotation-at successors read read-row find rows places slots modifier-at lowest-stray lowest-from assigned judge judge-modifiers judge-sources unsigned signed meaning reads kills defines _then_
 bad-passes = refl
 
-pub only-first : ¬ Demand3 first-only
-only-first d = bad-unsafe (d bad bad-bytes .sound bad-passes .1)
+-- whatever waves through all after instruction 0
+pub only-first : (check : List ℕ → Judgement) → WavesThrough check → ¬ Demand3 check
+only-first check waves d = bad-unsafe (d bad bad-bytes .sound (waves bad bad-passes) .1)

@@ -1,10 +1,12 @@
 -- The numbers that refusals of a check have: those of opening, of reading and of the check's own rules. Assumes nothing.
-use mathlib.Core.Path.{refl}
+use mathlib.Core.Path.{_≡_, refl}
 use mathlib.Core.List.{List, [], _∷_}
 use mathlib.Core.Logic.{_⊎_, inl, inr}
-use Prim.Native.Nat.{ℕ, zero, suc}
+use Prim.Native.Nat.{ℕ, zero, suc, _<_}
+use native.Mathlib.Omega.{arith}
 use lib.Dec.{eqb, ltb, lit≤}
 use lib.IntN.{ℤ, pos, negsuc}
+use lib.ListN.{length, length-take, length-drop}
 use Rattle.bits.specs.Sets.{minus, lowest}
 use Rattle.bits.specs.Outcomes.{Outcome, gives, refuses, _then_}
 use Rattle.bits.proofs.OutcomeLaws.{Refusals, of-gives, of-refuses, of-require, of-then, on, weaker, Between}
@@ -13,14 +15,16 @@ use Rattle.record.specs.declared.answer.Refusal.{Refusal}
 use Rattle.record.specs.Registers.{reads}
 use Rattle.record.proofs.NumberedLaws.{Numbered}
 use Rattle.reader.specs.Reader.{read}
-use Rattle.reader.proofs.NumberedLaws.{read-numbers}
+use Rattle.reader.proofs.NumberedLaws.{read-numbers, eight-numbers}
 use Rattle.container.specs.declared.header.Header.{Header}
 use Rattle.container.specs.Container.{count-of, words-of, eight}
-use Rattle.container.specs.Opening.{open-outcome}
-use Rattle.container.proofs.NumberedLaws.{open-numbers}
+use Rattle.container.specs.Opening.{Rejection, open-outcome, Opens}
+use Rattle.container.proofs.OpeningLaws.{opened, length-words}
+use Rattle.container.proofs.NumberedLaws.{Unopened, open-numbers}
 use Rattle.verifier.specs.declared.verdict.Finding.{Finding}
 use Rattle.verifier.specs.Program.{Program, successors, after, program-of}
 use Rattle.verifier.specs.Verdict.{Judgement, finding, no-register, first, each, judge-opening, judge-reading, judge-word, none-missing, judge-successor, judge-flow, judge-index, judge-program, verdict-of}
+use Rattle.verifier.proofs.VerdictLaws.{first-refused}
 
 -- the finding's number is one of those from a to b
 abbrev pub ToldBetween : ℕ → ℕ → Finding → Type 0
@@ -41,19 +45,19 @@ module _ (P : Finding → Type 0) where
 
 -- opening and reading: their own numbers
 
-opening-numbers : (o : Outcome ℕ Header) → Refusals (Between 10 13) o → Refusals (ToldBetween 10 13) (judge-opening o)
+opening-numbers : (o : Outcome Rejection Header) → Refusals Unopened o → Refusals (ToldBetween 10 13) (judge-opening o)
 opening-numbers (gives h) p = of-gives (ToldBetween 10 13) tt
-opening-numbers (refuses n) p = of-refuses (ToldBetween 10 13) (finding n 0 0 no-register) (p n refl)
+opening-numbers (refuses r) p = of-refuses (ToldBetween 10 13) (finding (r .number) (r .place) 0 no-register) (p r refl .0)
 
 pub opened-numbers : (s : List ℕ) → Refusals (ToldBetween 10 13) (judge-opening (open-outcome s))
 opened-numbers s = opening-numbers (open-outcome s) (open-numbers s)
 
-reading-numbers : (i : ℕ) (o : Outcome Refusal Instruction) → Refusals (Numbered 1 7) o → Refusals (ToldBetween 1 7) (judge-reading i o)
-reading-numbers i (gives x) p = of-gives (ToldBetween 1 7) tt
-reading-numbers i (refuses f) p = of-refuses (ToldBetween 1 7) (finding (f .number) (f .place) i no-register) (p f refl)
+reading-numbers : (a b i : ℕ) (o : Outcome Refusal Instruction) → Refusals (Numbered a b) o → Refusals (ToldBetween a b) (judge-reading i o)
+reading-numbers a b i (gives x) p = of-gives (ToldBetween a b) tt
+reading-numbers a b i (refuses f) p = of-refuses (ToldBetween a b) (finding (f .number) (f .place) i no-register) (p f refl)
 
 pub words-numbers : (words : List ℕ) (n : ℕ) → Refusals (ToldBetween 1 7) (first (judge-word words) n)
-words-numbers words = first-numbers (ToldBetween 1 7) (judge-word words) (λ i. reading-numbers i (read (eight words i)) (read-numbers (eight words i)))
+words-numbers words = first-numbers (ToldBetween 1 7) (judge-word words) (λ i. reading-numbers 1 7 i (read (eight words i)) (read-numbers (eight words i)))
 
 -- the program
 
@@ -85,20 +89,33 @@ program-numbers p =
     (missing-numbers 23 0 (p .annotation 0) (p .entry) (lit≤ tt, lit≤ tt))
     (first-numbers (ToldBetween 20 23) (judge-index p) (index-numbers p) (p .count))
 
+-- the words of a container that opens have eight bytes, so 1 is not among their refusals
+
+length-eight : (s : List ℕ) → Opens s → (i : ℕ) → i < count-of s → length (eight (words-of s) i) ≡ 8
+length-eight s o i l = simp (length-take, length-drop) (omega (arith, length-words s o, l))
+
+opened-words-numbers : (s : List ℕ) → Opens s → Refusals (ToldBetween 2 7) (first (judge-word (words-of s)) (count-of s))
+opened-words-numbers s o f e =
+    let w = first-refused (judge-word (words-of s)) (count-of s) e in
+    let bs = eight (words-of s) (w .0) in
+    reading-numbers 2 7 (w .0) (read bs) (eight-numbers bs (length-eight s o (w .0) (w .1))) f (w .2)
+
 -- the whole check
 
 abbrev pub FromTheRules : ℕ → Type 0
-FromTheRules n = Between 1 7 n ⊎ (Between 10 13 n ⊎ Between 20 23 n)
+FromTheRules n = Between 2 7 n ⊎ (Between 10 13 n ⊎ Between 20 23 n)
 
 abbrev ByTheRules : Finding → Type 0
 ByTheRules f = FromTheRules (f .number)
 
 pub verdict-numbers : (s : List ℕ) → Refusals (λ (f : Finding). FromTheRules (f .number)) (verdict-of s)
-unfolding verdict-of
-verdict-numbers s =
-    let words = first (judge-word (words-of s)) (count-of s) in
-    of-then ByTheRules (judge-opening (open-outcome s)) (words then judge-program (program-of s))
-    (weaker (λ (f : Finding) (n : ToldBetween 10 13 f). inr (inl n)) (opened-numbers s))
-    (of-then ByTheRules words (judge-program (program-of s))
-    (weaker (λ (f : Finding) (n : ToldBetween 1 7 f). inl n) (words-numbers (words-of s) (count-of s)))
-    (weaker (λ (f : Finding) (n : ToldBetween 20 23 f). inr (inr n)) (program-numbers (program-of s))))
+unfolding verdict-of _then_
+verdict-numbers s = go (open-outcome s) refl (open-numbers s)
+  where
+    go : (o : Outcome Rejection Header) → open-outcome s ≡ o → Refusals Unopened o
+        → Refusals ByTheRules (judge-opening o then first (judge-word (words-of s)) (count-of s) then judge-program (program-of s))
+    go (gives h) q n =
+        of-then ByTheRules (first (judge-word (words-of s)) (count-of s)) (judge-program (program-of s))
+        (weaker (λ (f : Finding) (n : ToldBetween 2 7 f). inl n) (opened-words-numbers s (opened s q)))
+        (weaker (λ (f : Finding) (n : ToldBetween 20 23 f). inr (inr n)) (program-numbers (program-of s)))
+    go (refuses r) q n = of-refuses ByTheRules (finding (r .number) (r .place) 0 no-register) (inr (inl (n r refl .0)))

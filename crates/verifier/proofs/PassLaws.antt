@@ -15,7 +15,7 @@ use Rattle.reader.specs.Reader.{read}
 use Rattle.record.specs.Registers.{ends, branches}
 use Rattle.container.specs.declared.header.Header.{Header}
 use Rattle.container.specs.Container.{header-length, word-length, annotation-length, annotations-start, words-of, annotations-of, eight}
-use Rattle.container.specs.Opening.{open-outcome}
+use Rattle.container.specs.Opening.{unplaced, open-outcome}
 use Rattle.container.proofs.OpeningLaws.{sized, length-words, length-annotations, words-to, annotations-from}
 use Rattle.verifier.specs.Program.{Program, successors, landing, after, instruction-in, instruction-at, annotation-at, program-in, Worded, Annotated}
 use Rattle.verifier.specs.declared.verdict.Finding.{Finding}
@@ -104,38 +104,32 @@ module _ (words annotations : List ℕ) (n entry : ℕ) {v : Judgement} (hv : v 
   barred z e = e ∙ ap (λ (b : Judgement). first (judge-word words) n then b) (sym (then-refused _ (sym hv ∙ z)))
 
 -- a container that does not open
-pub unopened : (s : List ℕ) {n : ℕ} {r : Judgement} → open-outcome s ≡ refuses n → r ≡ refuses (finding n 0 0 no-register) → r ≡ verdict-of s
+pub unopened : (s : List ℕ) {n : ℕ} {r : Judgement} → open-outcome s ≡ refuses (unplaced n) → r ≡ refuses (finding n 0 0 no-register) → r ≡ verdict-of s
 unfolding verdict-of
 unopened s o e = e ∙ sym (then-refused _ (ap judge-opening o))
 
 -- one that does: its words and annotations, as they are lent, and the verdict on them
-module _ (s : List ℕ) (h : Header) (o : open-outcome s ≡ gives h) where
+module _ (s notes : List ℕ) (h : Header) (o : open-outcome s ≡ gives h) (notes-are : notes ≡ annotations-of s) where
   abbrev n : ℕ
   n = h .count
 
   abbrev Words : List ℕ
   Words = take (annotations-start n - header-length) (drop header-length s)
 
-  abbrev Notes : List ℕ
-  Notes = take (length s - annotations-start n) (drop (annotations-start n) s)
-
   words-are : Words ≡ words-of s
   words-are = words-to s o (annotations-start n) (ap annotations-start (sized s o .counts))
-
-  notes-are : Notes ≡ annotations-of s
-  notes-are = annotations-from s o (annotations-start n) (ap annotations-start (sized s o .counts))
 
   pub worded : Worded Words n
   worded =
       let z = sized s o in
       record { few = rw (z .counts) (z .few); long = ap length words-are ∙ length-words s o ∙ ap (λ (k : ℕ). word-length * k) (sym (z .counts)) }
 
-  pub annotated : Annotated Notes n
+  pub annotated : Annotated notes n
   annotated =
       let z = sized s o in
       record { few = rw (z .counts) (z .few); long = ap length notes-are ∙ length-annotations s o ∙ ap (λ (k : ℕ). annotation-length * k) (sym (z .counts)) }
 
-  pub opened-to : {r : Judgement} → r ≡ (first (judge-word Words) n then judge-program (program-in Words Notes n (h .entry))) → r ≡ verdict-of s
+  pub opened-to : {r : Judgement} → r ≡ (first (judge-word Words) n then judge-program (program-in Words notes n (h .entry))) → r ≡ verdict-of s
   unfolding verdict-of
   opened-to e =
       let z = sized s o in

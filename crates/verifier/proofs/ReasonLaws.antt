@@ -20,11 +20,11 @@ use Rattle.record.specs.Registers.{reads}
 use Rattle.record.proofs.RegisterLaws.{reads-lt}
 use Rattle.container.specs.declared.header.Header.{Header}
 use Rattle.container.specs.Container.{count-of, words-of, eight}
-use Rattle.container.specs.Opening.{open-outcome}
+use Rattle.container.specs.Opening.{Rejection, open-outcome}
 use Rattle.verifier.specs.declared.verdict.Finding.{Finding}
 use Rattle.verifier.specs.Program.{Program, successors, after, program-of}
-use Rattle.verifier.specs.Verdict.{finding, no-register, first, each, none-missing, judge-opening, judge-reading, judge-word, judge-successor, judge-flow, judge-index, judge-program, verdict-of}
-use Rattle.verifier.specs.Reasons.{LowestMissing, Wrong, entry-lacks, annotation-lacks, runs-off, successor-lacks, Reason, unopened, unreadable, wrong}
+use Rattle.verifier.specs.Verdict.{Judgement, finding, no-register, first, each, none-missing, judge-opening, judge-reading, judge-word, judge-successor, judge-flow, judge-index, judge-program, verdict-of}
+use Rattle.verifier.specs.Reasons.{LowestMissing, Wrong, entry-lacks, annotation-lacks, runs-off, successor-lacks, Reason, unopened, unreadable, wrong, Grounded}
 use Rattle.verifier.proofs.VerdictLaws.{either, first-refused, each-refused, some-of, inside-to}
 use Rattle.verifier.proofs.ProgramLaws.{annotation-lt}
 
@@ -101,7 +101,7 @@ module _ (s : List ℕ) where
   opening-wrong : {f : Finding} → judge-opening (open-outcome s) ≡ refuses f → Reason s f
   opening-wrong {f} e = go (open-outcome s) refl e
     where
-      go : (o : Outcome ℕ Header) → open-outcome s ≡ o → judge-opening o ≡ refuses f → Reason s f
+      go : (o : Outcome Rejection Header) → open-outcome s ≡ o → judge-opening o ≡ refuses f → Reason s f
       go (gives h) p q = never (sym q)
       go (refuses n) p q = rw (told (sym q)) (unopened n p)
 
@@ -123,3 +123,8 @@ module _ (s : List ℕ) where
       (λ u. wrong f (program-wrong (program-of s) (annotation-lt s t) u))
       (either words (judge-program (program-of s)) q))
       (either (judge-opening (open-outcome s)) (words then judge-program (program-of s)) e)
+
+  -- so a judgement that agrees with the verdict tells what is so
+  pub grounded : (v : Judgement) → T (areBytes s) → v ≡ verdict-of s → Grounded s v
+  grounded (gives _) t e = tt
+  grounded (refuses f) t e = reason t (sym e)

@@ -2,3 +2,4 @@ pub mod Program
 pub mod Verdict
 pub mod Reasons
 pub mod Demand3
+pub mod Lazy

@@ -1,4 +1,5 @@
--- A container's program: its instructions as words are read, where each goes, what it leaves defined (the paper's "held"), and its walks.
+-- A container's program: its instructions as words are read, where each goes, what it leaves defined
+-- (the paper's held), and its walks (01, How registers are held).
 use mathlib.Core.Bool.{true}
 use mathlib.Core.Path.{_≡_}
 use mathlib.Core.List.{List, [], _∷_, List·Memᴰ}
@@ -20,7 +21,7 @@ use Rattle.container.specs.Container.{most-instructions, word-length, annotatio
 use Rattle.container.specs.Opening.{Opens}
 use Rattle.walks.specs.Walks.{Machine, Inside, Walk}
 
--- "Bit r of a set is register r", of 64
+-- how many registers there are; bit r of a set stands for register r
 abbrev pub register-count : ℕ
 register-count = 64
 
@@ -31,17 +32,18 @@ pub record Program : Type 0 where
   pub annotation : ℕ → ℕ
   pub entry : ℕ
 
--- "Flow `end`: no successor, whatever the opcode. Otherwise i + 1 follows, and for BRANCHZ also i + 1 + offset; both always count"
+-- where instruction i can go: nowhere with flow `end`, whatever its row is; else to the next, and BRANCHZ also to the one that its offset
+-- names, counted from the next. Both count, whatever the source is.
 unfoldable pub successors : Instruction → ℕ → List ℤ
 successors x i = choose (ends x) [] (pos (i + 1) ∷ choose (branches x) ((pos (i + 1) +ℤ x .offset) ∷ []) [])
 
--- the index that z is, or n where z is none of "0 to n - 1"
+-- the index that z is, or n where z is none of 0 to n - 1
 unfoldable pub landing : ℕ → ℤ → ℕ
 landing n (pos j) = choose (ltb j n) j n
 landing n (negsuc _) = n
 
--- "After an instruction: what was held, less the registers it releases, plus its destination if the half mask is 3. A half write adds
--- nothing."
+-- what is defined after an instruction: what was before it, without what it releases, and with what it fully writes; half a write adds
+-- nothing
 unfoldable pub after : Instruction → ℕ → ℕ
 after x held = union (minus held (kills x)) (defines x)
 
@@ -96,7 +98,7 @@ program-of s = program-in (words-of s) (annotations-of s) (count-of s) (entry-of
 abbrev pub machine-of : List ℕ → Machine ℕ
 machine-of s = machine (program-of s)
 
--- "A parcel is well-formed when it opens and all its words read."
+-- a well-formed container (01, The parcel): it opens, and each of its words reads
 pub record WellFormed (s : List ℕ) : Type 0 where
   pub opens : Opens s
   pub reads : (i : ℕ) → i < count-of s → (x : Instruction) × (read (eight (words-of s) i) ≡ gives x)

@@ -1,5 +1,5 @@
--- The verdict (the paper's check), in the order of paper 01: "Checking: opening; then the lowest unreadable word with its number; then 23;
--- then by instruction 20, and for the fall-through then the branch target 21, 22."
+-- The verdict (the paper's check), with the refusals in the order of 01, Numbers given back: opening, the lowest word that does not read,
+-- 23, and then for each instruction 20, and 21 and 22 for the fall-through and after it for the branch target.
 use mathlib.Core.List.{List, [], _∷_}
 use Prim.Native.Nat.{ℕ, zero, suc}
 use lib.Dec.{eqb, ltb}
@@ -12,14 +12,14 @@ use Rattle.reader.specs.Reader.{read}
 use Rattle.record.specs.Registers.{reads}
 use Rattle.container.specs.declared.header.Header.{Header}
 use Rattle.container.specs.Container.{count-of, words-of, eight}
-use Rattle.container.specs.Opening.{open-outcome}
+use Rattle.container.specs.Opening.{Rejection, open-outcome}
 use Rattle.verifier.specs.declared.verdict.Finding.{Finding}
 use Rattle.verifier.specs.declared.verdict.Verdict.{Verdict}
 use Rattle.verifier.specs.declared.verdict.Verdict.the-variants.{Accepted, Refused}
 use Rattle.verifier.specs.Program.{Program, successors, after, annotation-at, program-of}
 
--- what a verdict ends with: nothing to tell, or "number, place (0 where none is named) and, from a check, instruction index and lowest
--- offending register, or 64 if no register is at fault"
+-- what a verdict ends with: nothing to tell, or a finding: the number of the refusal, its place, the index of an instruction, and the lowest
+-- register at fault, or 64
 abbrev pub Judgement : Type 0
 Judgement = Outcome Finding (Unit {0})
 
@@ -44,12 +44,12 @@ unfoldable pub each : {A : Type 0} → (A → Judgement) → List A → Judgemen
 each f [] = passes
 each f (x ∷ xs) = f x then each f xs
 
--- "opening refusals have index 0"
-abbrev pub judge-opening : Outcome ℕ Header → Judgement
+-- a container that does not open: index 0
+abbrev pub judge-opening : Outcome Rejection Header → Judgement
 judge-opening (gives _) = passes
-judge-opening (refuses n) = refuses (finding n 0 0 no-register)
+judge-opening (refuses r) = refuses (finding (r .number) (r .place) 0 no-register)
 
--- an unreadable word at index i, "with its number"
+-- a word at index i that does not read, with the number and place of its own refusal
 abbrev pub judge-reading : ℕ → Outcome Refusal Instruction → Judgement
 judge-reading i (gives _) = passes
 judge-reading i (refuses f) = refuses (finding (f .number) (f .place) i no-register)
@@ -61,14 +61,13 @@ judge-word words i = judge-reading i (read (eight words i))
 unfoldable pub none-missing : ℕ → ℕ → ℕ → ℕ → Judgement
 none-missing n i named held = require (eqb (minus named held) 0) (finding n 0 i (lowest (minus named held)))
 
--- a successor of instruction i, after which `held` is defined, among n: "21: a successor isn't in 0 to n - 1"; "22: a successor's note
--- names a register not held after the instruction"
+-- a successor of instruction i, after which `held` is defined, among n: 21 where it is outside; 22 where its annotation names a register that
+-- is not defined then
 unfoldable pub judge-successor : ℕ → (ℕ → ℕ) → ℕ → ℕ → ℤ → Judgement
 judge-successor n annotation i held (pos j) = require (ltb j n) (finding 21 0 i no-register) then none-missing 22 i (annotation j) held
 judge-successor n annotation i held (negsuc _) = refuses (finding 21 0 i no-register)
 
--- instruction i, which is x: "The check takes note i as what is held before instruction i."; "20: an instruction reads a register its note
--- lacks"
+-- instruction i, which is x; its annotation is taken as what is defined before it: 20 where it reads another register; then its successors
 unfoldable pub judge-flow : ℕ → (ℕ → ℕ) → ℕ → Instruction → Judgement
 judge-flow n annotation i x =
     none-missing 20 i (reads x) (annotation i)
@@ -77,7 +76,7 @@ judge-flow n annotation i x =
 abbrev pub judge-index : Program → ℕ → Judgement
 judge-index p i = judge-flow (p .count) (p .annotation) i (p .instruction i)
 
--- "23: note 0 names a register outside the entry set"; then instruction by instruction
+-- 23 where annotation 0 names a register that is not in the entry set; then instruction by instruction
 unfoldable pub judge-program : Program → Judgement
 judge-program p = none-missing 23 0 (p .annotation 0) (p .entry) then first (judge-index p) (p .count)
 

@@ -7,9 +7,12 @@ use container::header::Opening;
 use container::header::open;
 use container::layout::HEADER_LENGTH;
 use container::layout::WORD_LENGTH;
+use container::parts::annotations;
 ghost use mathlib.Core.Path.{_≡_};
+ghost use Rattle.bits.specs.Outcomes.{passes};
 ghost use Rattle.verifier.specs.Verdict.{verdict-outcome, verdict-of};
 ghost use Rattle.verifier.specs.Demand3.{Demand3At};
+ghost use Rattle.verifier.specs.Reasons.{Grounded};
 
 pub mod flow;
 pub mod program;
@@ -18,14 +21,16 @@ pub mod verdict;
 // Verifies a container.
 pub fn verify(bytes: &[u8]) -> Verdict
     ensures verdict { λ r. ⌜ verdict-outcome r ≡ verdict-of (now (bytes .entry)) ⌝ }
-    ensures demand { λ r. ⌜ Demand3At (now (bytes .entry)) (verdict-outcome r) ⌝ }
+    ensures demand { λ r. ⌜ Demand3At (now (bytes .entry)) (verdict-outcome r ≡ passes) ⌝ }
+    ensures reason { λ r. ⌜ Grounded (now (bytes .entry)) (verdict-outcome r) ⌝ }
 {
     match open(bytes) {
         Opening::Opened(header) => {
             let n = header.count;
             let entry = header.entry;
+            let notes = annotations(bytes);
             let middle = HEADER_LENGTH + WORD_LENGTH * n;
-            return judge_words(&bytes[HEADER_LENGTH..middle], &bytes[middle..], n, entry);
+            return judge_words(&bytes[HEADER_LENGTH..middle], notes, n, entry);
         }
         Opening::Refused(number) => {
             return refused(number, 0, 0, NO_REGISTER);

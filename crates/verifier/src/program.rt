@@ -19,11 +19,11 @@ ghost use Rattle.container.specs.Container.{eight};
 ghost use Rattle.verifier.specs.Program.{program-in, annotation-at, Worded, Annotated};
 ghost use Rattle.verifier.specs.Verdict.{verdict-outcome, first, judge-word, judge-index, judge-program};
 
-// The number of the refusal where the first annotation names a register outside the entry set.
+// The number of the refusal where the first annotation names what is not defined at entry.
 const ENTRY_MISSING: u8 = 23;
 
 // The word at index i, read.
-pub fn reading_at(words: &[u8], n: usize, i: usize) -> Reading
+pub(crate) fn reading_at(words: &[u8], n: usize, i: usize) -> Reading
     requires { ⌜ Worded (now words) n × (i < n) ⌝ }
     ensures { λ r. ⌜ reading r ≡ read (eight (now (words .entry)) i) ⌝ }
 {

@@ -1,4 +1,4 @@
--- How many sweeps there can be (paper 02, Item 13). Assumes nothing.
+-- How many sweeps there can be (02, Item 13). Assumes nothing.
 use mathlib.Core.Path.{_≡_, refl, sym, _∙_}
 use mathlib.Core.Bool.{Bool, true, false}
 use mathlib.Core.Logic.{_⊎_, inl, inr, ⊎-elim}

@@ -7,7 +7,7 @@ use lib.IntN.{pos}
 use Rattle.walks.specs.Walks.{Machine, Walk, start, step, Next, Holds, SafeAt, Safe, AllSafe, AllReached, Exact}
 use Rattle.walks.specs.served.Passing.{Passes, noted, bare}
 use Rattle.walks.specs.Sweeps.{Note, Still, Told}
-use Rattle.walks.proofs.WalkLaws.{claimed, arriving, sound, complete}
+use Rattle.walks.proofs.WalkLaws.{supplied, held, claimed, arriving, sound, complete}
 use Rattle.walks.proofs.SweepLaws.{largest, starts, carried, note-fact}
 
 -- walks do not see annotations
@@ -28,7 +28,7 @@ module _ {G : Type 0} (m : Machine G) (a b : ℕ → G → Type 0) where
   module _ (truly : (i : ℕ) (w : List ℕ) → Walk (noted m b) (i ∷ w) → (g : G) → b i g → Holds (noted m b) (i ∷ w) g) where
     safe-at-noted : {i : ℕ} {w : List ℕ} → Walk (noted m b) (i ∷ w) → SafeAt (noted m a) i w → SafeAt (noted m b) i w
     safe-at-noted {i} {w} v s = record {
-      needed = λ g h. holds-noted (i ∷ w) g (s .needed g h);
+      needed = λ g h. supplied (noted m b) i w g (holds-noted (i ∷ w) g (held (noted m a) i w g (s .needed g h)));
       claimed = truly i w v;
       stays = s .stays;
     }

@@ -53,7 +53,7 @@ module _ {G : Type 0} (m : Machine G) where
   pub for-ever : (l k : ℕ) → k ≤ l → Still m k → (j : ℕ) → j < m .count → (g : G) → (Note m k j g ↔ Note m l j g)
   for-ever l k q s j b g = (stays-up l k q s j b g, falls-to l k q j g)
 
-  -- what is claimed at instruction 0 only from the entry set, and carried along, is in every note: the notes contain every acceptable set
+  -- what is claimed at instruction 0 only from the entry set, and carried along, is in every note: any notes that pass lie within these
   module _ (notes : ℕ → G → Type 0) (g : G) (fact : m .fact g) (first : notes 0 g → m .entry g)
       (carries : (i j : ℕ) → i < m .count → j < m .count → m .follows i (pos j) → notes j g → Next m i (notes i) g) where
     pub largest : (k j : ℕ) → j < m .count → notes j g → Note m k j g

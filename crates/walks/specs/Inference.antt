@@ -1,4 +1,4 @@
--- What holds of the annotations (the paper's notes) that are found by sweeps, and of the number of sweeps (paper 02, Items 1 and 13).
+-- What holds of the annotations (the paper's notes) that are found by sweeps, and of the number of sweeps (02, Items 1 and 13).
 use mathlib.Core.Path.{_≡_}
 use mathlib.Core.List.{List, _∷_}
 use mathlib.Core.Logic.{_↔_}
@@ -14,9 +14,9 @@ pub record Found {G : Type 0} (m : Machine G) (sweeps : ℕ) (notes : ℕ → G 
 
 -- what holds of them, in a program of one instruction or more that is `Told`
 pub record Proposal {G : Type 0} (m : Machine G) (sweeps : ℕ) (notes : ℕ → G → Type 0) : Type 1 where
-  -- "The proposed notes contain every acceptable set."
+  -- whatever other notes name that pass, these name too (Item 1),
   pub contains : (others : ℕ → G → Type 0) → Passes (noted m others) → (j : ℕ) → j < m .count → (g : G) → m .fact g → others j g → notes j g
-  -- "24 (index 0) exactly if the check would accept no notes at all": if any notes pass, these do
+  -- and if any notes pass, these do, so where these fail (24) no others would pass,
   pub accepted : (others : ℕ → G → Type 0) → Passes (noted m others) → Passes (noted m notes)
   -- where every instruction lies on a walk they name exactly what holds on every walk arriving,
   pub exact : AllReached m → Exact (noted m notes)
@@ -24,9 +24,9 @@ pub record Proposal {G : Type 0} (m : Machine G) (sweeps : ℕ) (notes : ℕ →
   pub lacks : AllReached m → (j : ℕ) → j < m .count → (g : G) → m .fact g → ((¬ notes j g) ↔ ((w : List ℕ) × Walk m (j ∷ w) × (¬ Holds m (j ∷ w) g)))
   -- and they pass exactly if every walk is safe: what is needed holds there, and no successor is outside
   pub safe : AllReached m → (Passes (noted m notes) ↔ AllSafe (bare m))
-  -- "whenever it proposes notes, at most n",
+  -- where an instruction needs what it ends, notes that pass took n sweeps or fewer (Item 13),
   pub bound : NeedsDropped m → Passes (noted m notes) → sweeps ≤ m .count
-  -- "and exactly n for n NOPs, only the last with `end`, and an empty entry set"
+  -- a straight line of NOPs takes all n,
   pub nops : Straight m → sweeps ≡ m .count
-  -- whatever the program is; a ring of instructions takes as many
+  -- and no program takes more than n + 1
   pub ends : sweeps ≤ suc (m .count)

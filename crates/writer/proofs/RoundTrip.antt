@@ -2,7 +2,7 @@
 use mathlib.Core.Path.{_≡_, refl, sym, ap, ap₂, _∙_}
 use mathlib.Core.Bool.{Bool, true}
 use mathlib.Core.List.{List, [], _∷_, map}
-use mathlib.Core.Logic.{⊎-elim, _≢_}
+use mathlib.Core.Logic.{inr, ⊎-elim, _≢_}
 use Prim.Native.Nat.{ℕ, _<_, _^_}
 use native.Mathlib.Nat.{mod-one, lt-of-lt-of-le}
 use native.Mathlib.Omega.{arith}
@@ -35,7 +35,7 @@ use Rattle.writer.specs.Writer.{same-list, same-offset, heads, same, is-
 use Rattle.record.specs.declared.instruction.Instruction.{Instruction}
 use Rattle.record.specs.declared.answer.Refusal.{Refusal}
 use Rattle.record.proofs.NumberLaws.{pointwise, split-slots, source-in, modifier-in, numbers-split, number-room, roomy-fit, read-roomy}
-use Rattle.record.proofs.NumberedLaws.{Numbered, instruction-numbers}
+use Rattle.record.proofs.NumberedLaws.{OfWriting, instruction-numbers}
 use Rattle.reader.proofs.StrayLaws.{clean-stray, stray-le, join-of-clean}
 
 -- ---- an instruction that gets no refusal has its row in the table and room for its numbers, and what it has is legal
@@ -264,15 +264,15 @@ module _ (i : Instruction) (legal : judge-instruction i ≡ passes) (buffer : Li
 
 -- ---- the numbers that refusals of writing have; 15 is none of them
 
-pub write-numbers : (i : Instruction) (buffer : List ℕ) → Refusals (Numbered 2 9) (write i buffer)
+pub write-numbers : (i : Instruction) (buffer : List ℕ) → Refusals OfWriting (write i buffer)
 unfolding write _then_
 write-numbers i buffer =
-    on (Numbered 2 9) (eqb (length buffer) 8) (refusal 8 0) (lit≤ tt, lit≤ tt) (go (judge-instruction i) refl (instruction-numbers i))
+    on OfWriting (eqb (length buffer) 8) (refusal 8 0) (inr (lit≤ tt, lit≤ tt)) (go (judge-instruction i) refl (instruction-numbers i))
   where
-    go : (o : Outcome Refusal (Unit {0})) → judge-instruction i ≡ o → Refusals (Numbered 2 9) o
-        → Refusals (Numbered 2 9) (o then require (is-record (read-number (word-of i)) i) (refusal 15 0))
+    go : (o : Outcome Refusal (Unit {0})) → judge-instruction i ≡ o → Refusals OfWriting o
+        → Refusals OfWriting (o then require (is-record (read-number (word-of i)) i) (refusal 15 0))
     go (gives tt) q h = λ g e. never (sym (sym (ap (λ (b : Bool). require b (refusal 15 0)) (never-15 i q)) ∙ e))
     go (refuses g) q h = h
 
 pub no-15 : (i : Instruction) (buffer : List ℕ) (f : Refusal) → write i buffer ≡ refuses f → f .number ≢ 15
-no-15 i buffer f e q = omega (arith, write-numbers i buffer f e .1, q)
+no-15 i buffer f e q = ⊎-elim (λ n. omega (arith, n, q)) (λ n. omega (arith, n .1, q)) (write-numbers i buffer f e)

@@ -1,4 +1,4 @@
--- Writing a record, and the order of its refusals: 8, 2, 9, 4, 5, 6, 7, 15 (paper 01, "Numbers given back").
+-- Writing a record, and the order of its refusals: 8, 2, 9, 4, 5, 6, 7, 15 (01, Numbers given back).
 use mathlib.Core.Bool.{Bool, true, false, _&&_}
 use mathlib.Core.List.{List, [], _∷_}
 use Prim.Native.Nat.{ℕ}

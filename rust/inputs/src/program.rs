@@ -1,4 +1,4 @@
-use crate::{BRANCH, Rng, container, encode, instruction, source};
+use crate::{BRANCH, Rng, encode, instruction, parcel, source};
 use reference::{Instruction, ROW_COUNT, ROWS};
 
 const END: u8 = 15;
@@ -23,23 +23,23 @@ pub struct Program {
 }
 
 impl Program {
-    /// Legal instructions whose successors all exist; they may read undefined registers.
+    /// Legal instructions whose successors all exist; they may read unheld registers.
     pub fn random(rng: &mut Rng, shape: Shape) -> Program {
         let pool = Pool { first: rng.byte(), count: shape.registers };
         let instructions = (0..shape.count).map(|index| step(rng, shape, pool, index)).collect();
         Program { entry: rng.bits() | rng.bits(), instructions }
     }
 
-    /// A program that is accepted with its exact annotations.
+    /// A program that is accepted with its exact notes.
     pub fn safe(rng: &mut Rng, shape: Shape) -> Program {
         let mut program = Program::random(rng, shape);
-        let annotations = program.exact();
-        for (instruction, annotation) in program.instructions.iter_mut().zip(annotations) {
-            // A source that loses a register kills no more, so the sets only grow.
+        let notes = program.exact();
+        for (instruction, note) in program.instructions.iter_mut().zip(notes) {
+            // A source that loses a register releases no more, so the sets only grow.
             let page = instruction.page;
             for byte in &mut instruction.sources[..ROWS[instruction.row as usize].sources] {
-                if *byte < 128 && annotation >> (*byte % 64) & 1 == 0 {
-                    *byte = replacement(rng, annotation, page);
+                if *byte < 128 && note >> (*byte % 64) & 1 == 0 {
+                    *byte = replacement(rng, note, page);
                 }
             }
         }
@@ -60,12 +60,12 @@ impl Program {
     }
 
     /// The registers whose last use it is.
-    pub fn kills(&self, index: usize) -> u64 {
+    pub fn releases(&self, index: usize) -> u64 {
         self.registers(index, |byte| (64..128).contains(&byte))
     }
 
     /// The register that it fully writes.
-    pub fn defines(&self, index: usize) -> u64 {
+    pub fn fills(&self, index: usize) -> u64 {
         let instruction = &self.instructions[index];
         let full = ROWS[instruction.row as usize].destination && instruction.half_mask == 3;
         if full { 1 << instruction.register } else { 0 }
@@ -80,54 +80,54 @@ impl Program {
         [Some(next), target].into_iter().flatten().filter(move |_| !ends)
     }
 
-    /// The registers defined after an instruction, from those before it.
+    /// The registers held after an instruction, from those before it.
     pub fn after(&self, index: usize, before: u64) -> u64 {
-        before & !self.kills(index) | self.defines(index)
+        before & !self.releases(index) | self.fills(index)
     }
 
-    /// The largest annotations that agree with the entry set and with each other. Where every
-    /// instruction is reached they are what is defined on all walks that arrive.
+    /// The largest notes that agree with the entry set and with each other. Where every
+    /// instruction is reached they are what is held on all walks that arrive.
     pub fn exact(&self) -> Vec<u64> {
-        let mut annotations = vec![u64::MAX; self.count()];
-        annotations[0] = self.entry;
+        let mut notes = vec![u64::MAX; self.count()];
+        notes[0] = self.entry;
         let mut changed = true;
         while changed {
             changed = false;
             for index in 0..self.count() {
-                let after = self.after(index, annotations[index]);
+                let after = self.after(index, notes[index]);
                 for successor in self.successors(index) {
-                    if let Some(annotation) = annotations.get_mut(successor as usize) {
-                        changed |= *annotation & !after != 0;
-                        *annotation &= after;
+                    if let Some(note) = notes.get_mut(successor as usize) {
+                        changed |= *note & !after != 0;
+                        *note &= after;
                     }
                 }
             }
         }
-        annotations
+        notes
     }
 
-    /// Annotations below the exact ones that are accepted as well: what each instruction
-    /// reads, some more of the exact ones, and what its successors' annotations then need.
+    /// Notes below the exact ones that are accepted as well: what each instruction
+    /// reads, some more of the exact ones, and what its successors' notes then need.
     pub fn weaker(&self, exact: &[u64], mut some: impl FnMut() -> u64) -> Vec<u64> {
-        let mut annotations: Vec<u64> =
+        let mut notes: Vec<u64> =
             exact.iter().enumerate().map(|(index, set)| set & (some() | self.reads(index))).collect();
         let mut changed = true;
         while changed {
             changed = false;
             for index in (0..self.count()).rev() {
                 for successor in self.successors(index) {
-                    let needed = annotations[successor as usize] & !self.defines(index);
-                    changed |= needed & !annotations[index] != 0;
-                    annotations[index] |= needed;
+                    let needed = notes[successor as usize] & !self.fills(index);
+                    changed |= needed & !notes[index] != 0;
+                    notes[index] |= needed;
                 }
             }
         }
-        annotations
+        notes
     }
 
-    /// The container with these annotations.
-    pub fn container(&self, annotations: &[u64]) -> Vec<u8> {
-        container(self.entry, &self.words(), annotations)
+    /// The parcel with these notes.
+    pub fn parcel(&self, notes: &[u64]) -> Vec<u8> {
+        parcel(self.entry, &self.words(), notes)
     }
 
     fn registers(&self, index: usize, counts: impl Fn(u8) -> bool) -> u64 {
@@ -193,10 +193,10 @@ fn target(rng: &mut Rng, index: usize, count: usize) -> usize {
     (index + rng.below(12)).saturating_sub(4).min(count - 1)
 }
 
-/// A defined register, a uniform or a constant in place of an undefined register.
-fn replacement(rng: &mut Rng, annotation: u64, page: u8) -> u8 {
-    if annotation != 0 && rng.percent(70) {
-        return rng.member(annotation).trailing_zeros() as u8;
+/// A held register, a uniform or a constant in place of an unheld register.
+fn replacement(rng: &mut Rng, note: u64, page: u8) -> u8 {
+    if note != 0 && rng.percent(70) {
+        return rng.member(note).trailing_zeros() as u8;
     }
     loop {
         let byte = source(rng, page);

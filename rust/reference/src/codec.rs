@@ -21,7 +21,7 @@ const SPECIALS: [u32; 4] = [
 /// The offsets of a branch: 27 bits, signed.
 const OFFSETS: core::ops::RangeInclusive<i32> = -67_108_864..=67_108_863;
 
-/// A decoded instruction (the paper's record). Places that its row doesn't use are 0.
+/// A decoded instruction (the paper's record). What its row has no place for is 0.
 #[derive(Clone, Copy, Debug, Default, PartialEq, Eq)]
 pub struct Instruction {
     pub row: u8,

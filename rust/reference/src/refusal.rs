@@ -2,7 +2,7 @@
 /// reads back as its instruction.
 #[derive(Clone, Copy, Debug, PartialEq, Eq)]
 pub enum Refusal {
-    /// The bytes to read as a word aren't 8.
+    /// A word to read that isn't 8 bytes long.
     WordLength,
     /// No row fits the word, or the row number is over 76.
     NoRow,
@@ -17,7 +17,7 @@ pub enum Refusal {
     Source(u8),
     /// The buffer for a word isn't 8 bytes.
     BufferLength,
-    /// A number too large for its field, an offset out of range, an unused place that isn't 0.
+    /// A value that the row has no room for, or one other than 0 where the row has nothing.
     FieldRange,
     Mark,
     Version,
@@ -27,14 +27,14 @@ pub enum Refusal {
     ReservedByte,
     /// An index that isn't below the count.
     Index,
-    /// An instruction reads a register that its annotation lacks.
-    UndefinedRead,
+    /// An instruction reads a register that its note doesn't name.
+    UnheldRead,
     /// A successor outside the program.
     LeavesProgram,
-    /// A successor's annotation names a register that isn't defined after the instruction.
-    UndefinedAfter,
-    /// Annotation 0 names a register outside the entry set.
-    UndefinedAtEntry,
+    /// An instruction can go on to one whose note names a register that isn't held by then.
+    UnheldAfter,
+    /// The first note names a register that the entry set doesn't have.
+    UnheldAtEntry,
 }
 
 impl Refusal {
@@ -55,14 +55,14 @@ impl Refusal {
             Refusal::Size => 12,
             Refusal::ReservedByte => 13,
             Refusal::Index => 14,
-            Refusal::UndefinedRead => 20,
+            Refusal::UnheldRead => 20,
             Refusal::LeavesProgram => 21,
-            Refusal::UndefinedAfter => 22,
-            Refusal::UndefinedAtEntry => 23,
+            Refusal::UnheldAfter => 22,
+            Refusal::UnheldAtEntry => 23,
         }
     }
 
-    /// The paper's place, 0 where none is named.
+    /// The paper's place; 0 for the refusals without one.
     pub const fn place(self) -> u8 {
         match self {
             Refusal::Modifier(lowest_bit) => lowest_bit,

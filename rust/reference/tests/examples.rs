@@ -1,6 +1,6 @@
 //! The paper's checked examples, and the reference's tables as wholes.
 
-use reference::{Container, Instruction, MODIFIER_BITS, ROW_COUNT, ROWS, Refusal, Verdict, check, fresh, read, write};
+use reference::{Instruction, MODIFIER_BITS, Parcel, ROW_COUNT, ROWS, Refusal, Verdict, check, fresh, read, write};
 
 fn read_word(word: u64) -> Result<Instruction, Refusal> {
     read(&word.to_le_bytes())
@@ -15,10 +15,10 @@ fn row(name: &str) -> u8 {
     ROWS.iter().position(|row| row.name == name).unwrap() as u8
 }
 
-fn container(entry: u64, words: &[u64], annotations: &[u64]) -> Vec<u8> {
+fn parcel(entry: u64, words: &[u64], notes: &[u64]) -> Vec<u8> {
     let mut bytes = b"VSP\x01\0\0".to_vec();
     bytes.extend((words.len() as u16).to_le_bytes());
-    for number in [entry].iter().chain(words).chain(annotations) {
+    for number in [entry].iter().chain(words).chain(notes) {
         bytes.extend(number.to_le_bytes());
     }
     bytes
@@ -223,8 +223,8 @@ fn fields_are_disjoint() {
 }
 
 #[test]
-fn containers_that_do_not_open() {
-    let good = container(4, &[A | B], &[4]);
+fn parcels_that_do_not_open() {
+    let good = parcel(4, &[A | B], &[4]);
     assert_eq!(check(&good), Verdict::Accepted);
     let damaged = |at: usize, byte: u8| {
         let mut bytes = good.clone();
@@ -240,8 +240,8 @@ fn containers_that_do_not_open() {
         (damaged(6, 0), Refusal::Size),
         (damaged(6, 2), Refusal::Size),
         (damaged(7, 1), Refusal::Size),
-        (container(0, &[], &[]), Refusal::Size),
-        (container(0, &[B; 2049], &[0; 2049]), Refusal::Size),
+        (parcel(0, &[], &[]), Refusal::Size),
+        (parcel(0, &[B; 2049], &[0; 2049]), Refusal::Size),
         (vec![b'v'; 15], Refusal::Size),
         (vec![b'v'; 16], Refusal::Mark),
         (good[..31].to_vec(), Refusal::Size),
@@ -250,21 +250,21 @@ fn containers_that_do_not_open() {
     ];
     for (bytes, refusal) in examples {
         assert_eq!(check(&bytes), refused(refusal, 0, 64), "{bytes:02X?}");
-        assert_eq!(Container::open(&bytes).err(), Some(refusal), "{bytes:02X?}");
+        assert_eq!(Parcel::open(&bytes).err(), Some(refusal), "{bytes:02X?}");
     }
-    assert_eq!(check(&container(0, &[B; 2048], &[0; 2048])), Verdict::Accepted);
+    assert_eq!(check(&parcel(0, &[B; 2048], &[0; 2048])), Verdict::Accepted);
 }
 
 #[test]
-fn opened_containers() {
-    let bytes = container(4, &[A, B], &[4, 0]);
-    let opened = Container::open(&bytes).unwrap();
+fn opened_parcels() {
+    let bytes = parcel(4, &[A, B], &[4, 0]);
+    let opened = Parcel::open(&bytes).unwrap();
     assert_eq!((opened.entry, opened.count()), (4, 2));
     assert_eq!(opened.word(1), Ok(&B.to_le_bytes()));
     for index in [2, 3, 2048, usize::MAX] {
         assert_eq!(opened.word(index), Err(Refusal::Index));
     }
-    assert_eq!(opened.annotations().as_ptr_range(), bytes[32..].as_ptr_range());
+    assert_eq!(opened.notes().as_ptr_range(), bytes[32..].as_ptr_range());
 }
 
 #[test]
@@ -278,11 +278,11 @@ fn verdicts() {
     let no_successor = BRANCH & !0xFF | B | 0x44;
     let examples: [(u64, &[u64], &[u64], Verdict); 20] = [
         (R2, &[A | B], &[R2], Verdict::Accepted),
-        (R2, &[A | B], &[0], refused(Refusal::UndefinedRead, 0, 2)),
+        (R2, &[A | B], &[0], refused(Refusal::UnheldRead, 0, 2)),
         (R2, &[A], &[R2], refused(Refusal::LeavesProgram, 0, 64)),
-        (R2, &[A], &[R2 | R1], refused(Refusal::UndefinedAtEntry, 0, 1)),
-        // A release counts on both arms of a later branch.
-        (R4, &[C, branch(-2), B], &[R4, R3, 0], refused(Refusal::UndefinedAfter, 1, 4)),
+        (R2, &[A], &[R2 | R1], refused(Refusal::UnheldAtEntry, 0, 1)),
+        // What is released stays so whichever way a later branch goes.
+        (R4, &[C, branch(-2), B], &[R4, R3, 0], refused(Refusal::UnheldAfter, 1, 4)),
         (R4, &[C, branch(0), B], &[R4, R3, R3], Verdict::Accepted),
         // The offset counts from the next instruction.
         (0, &[branch(-1), B], &[0, 0], Verdict::Accepted),
@@ -290,24 +290,24 @@ fn verdicts() {
         (0, &[branch(1), B], &[0, 0], refused(Refusal::LeavesProgram, 0, 64)),
         (0, &[branch(0), B], &[0, 0], Verdict::Accepted),
         // The fall-through comes before the target.
-        (0, &[branch(-2), B], &[0, R3], refused(Refusal::UndefinedAfter, 0, 3)),
+        (0, &[branch(-2), B], &[0, R3], refused(Refusal::UnheldAfter, 0, 3)),
         (0, &[B, branch(-2)], &[0, 0], refused(Refusal::LeavesProgram, 1, 64)),
-        // A full write defines, a half write doesn't.
+        // A full write fills, a half write doesn't.
         (R2, &[A, B], &[R2, R1 | R2], Verdict::Accepted),
-        (R2, &[half, B], &[R2, R1 | R2], refused(Refusal::UndefinedAfter, 0, 1)),
-        // Killed and defined by the same instruction: defined after it.
+        (R2, &[half, B], &[R2, R1 | R2], refused(Refusal::UnheldAfter, 0, 1)),
+        // Released and filled by the same instruction: held after it.
         (R1, &[A & !0xFF | 0x41, B], &[R1, R1], Verdict::Accepted),
         // A branch that ends has no successor, but reads its source.
         (R4, &[no_successor], &[R4], Verdict::Accepted),
-        (R4, &[no_successor], &[0], refused(Refusal::UndefinedRead, 0, 4)),
+        (R4, &[no_successor], &[0], refused(Refusal::UnheldRead, 0, 4)),
         // An unreadable word comes before 23 and 20, the lowest one first.
         (0, &[A, bad, bad], &[R1, 0, 0], refused(Refusal::Modifier(32), 1, 64)),
         (0, &[A, B, 1 << 63], &[0, 0, 0], refused(Refusal::UnassignedBit, 2, 64)),
         // Unreachable instructions are checked too.
         (R2, &[B, A], &[0, R2], refused(Refusal::LeavesProgram, 1, 64)),
     ];
-    for (entry, words, annotations, verdict) in examples {
-        assert_eq!(check(&container(entry, words, annotations)), verdict, "{words:016X?} {annotations:X?}");
+    for (entry, words, notes, verdict) in examples {
+        assert_eq!(check(&parcel(entry, words, notes)), verdict, "{words:016X?} {notes:X?}");
     }
 }
 
@@ -328,10 +328,10 @@ fn numbers_and_places() {
         (Refusal::Size, 12, 0),
         (Refusal::ReservedByte, 13, 0),
         (Refusal::Index, 14, 0),
-        (Refusal::UndefinedRead, 20, 0),
+        (Refusal::UnheldRead, 20, 0),
         (Refusal::LeavesProgram, 21, 0),
-        (Refusal::UndefinedAfter, 22, 0),
-        (Refusal::UndefinedAtEntry, 23, 0),
+        (Refusal::UnheldAfter, 22, 0),
+        (Refusal::UnheldAtEntry, 23, 0),
     ];
     for (refusal, number, place) in refusals {
         assert_eq!((refusal.number(), refusal.place()), (number, place), "{refusal:?}");

@@ -176,25 +176,25 @@ pub fn compare_fresh(rng: &mut Rng, row: u64) -> u32 {
     answer
 }
 
-/// Checks the container with both; gives back the code.
-pub fn compare_check(container: &[u8]) -> u64 {
-    let expected = verdict_code(reference::check(container));
-    let answer = raw::check(container);
-    assert_eq!(answer, expected, "checking {}", hex(container));
-    let safe = match vsp::check(container) {
+/// Checks the parcel with both; gives back the code.
+pub fn compare_check(parcel: &[u8]) -> u64 {
+    let expected = verdict_code(reference::check(parcel));
+    let answer = raw::check(parcel);
+    assert_eq!(answer, expected, "checking {}", hex(parcel));
+    let safe = match vsp::check(parcel) {
         vsp::Verdict::Accepted => 0,
         vsp::Verdict::Refused { number, place, index, register } => {
             u64::from(number) | u64::from(place) << 8 | u64::from(index) << 16 | u64::from(register) << 32
         }
     };
-    assert_eq!(safe, expected, "checking {}", hex(container));
+    assert_eq!(safe, expected, "checking {}", hex(parcel));
     answer
 }
 
-/// Checks the container with both, and that the reference gives the verdict it was made for.
-pub fn compare_check_as(container: &[u8], verdict: Verdict) -> u64 {
-    assert_eq!(reference::check(container), verdict, "the reference on {}", hex(container));
-    compare_check(container)
+/// Checks the parcel with both, and that the reference gives the verdict it was made for.
+pub fn compare_check_as(parcel: &[u8], verdict: Verdict) -> u64 {
+    assert_eq!(reference::check(parcel), verdict, "the reference on {}", hex(parcel));
+    compare_check(parcel)
 }
 
 /// Upper-case digits without spaces.

@@ -4,6 +4,7 @@ use Rattle.verifier.specs.declared.verdict.Verdict.{Verdict}
 use Rattle.verifier.specs.Verdict.{verdict-outcome}
 use Rattle.capi.specs.Codes.{verdict-code}
 use Rattle.capi.proofs.CodeLaws.{index-small}
+use Rattle.capi.proofs.PromiseLaws.{demanded}
 use borrow.Author.Needs.{needs}
 use Rattle.capi.proofs.vsp_check.Statement.{statement}
 use Rattle.capi.proofs.vsp_check.Tie as tie
@@ -22,10 +23,14 @@ finding-code-requires c κs = let s = now (c .before .before .before .before .be
     index-small s (λ k. c .before .before .before .before .shared-slice-known .given k .fits) (sym (c .before .before .before .verify .ensures .0) ∙ ap verdict-outcome (c .before .v .given .1))
 
 returns : tie.Need-returns
-returns c = ap (λ (v : Verdict). verdict-code (verdict-outcome v)) (sym (c .enum-told .given .1)) ∙ ap verdict-code (c .before .before .verify .ensures .0)
+returns c =
+    let e = ap (λ (v : Verdict). verdict-code (verdict-outcome v)) (sym (c .enum-told .given .1)) ∙ ap verdict-code (c .before .before .verify .ensures .0) in
+    (e, demanded _ (λ k. c .before .before .before .shared-slice-known .given k .fits) e)
 
 returns-2 : tie.Need-returns-2
-returns-2 c = c .finding-code .ensures ∙ ap (λ (v : Verdict). verdict-code (verdict-outcome v)) (sym (c .before .before .v .given .1)) ∙ ap verdict-code (c .before .before .before .before .verify .ensures .0)
+returns-2 c =
+    let e = c .finding-code .ensures ∙ ap (λ (v : Verdict). verdict-code (verdict-outcome v)) (sym (c .before .before .v .given .1)) ∙ ap verdict-code (c .before .before .before .before .verify .ensures .0) in
+    (e, demanded _ (λ k. c .before .before .before .before .before .shared-slice-known .given k .fits) e)
 
 pub vsp-check-spec : {M : Type 1} → statement M
 vsp-check-spec =

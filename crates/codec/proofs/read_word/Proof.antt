@@ -8,11 +8,9 @@ use Rattle.codec.proofs.read_word.Reads as reads
 use Rattle.codec.proofs.read_word.Lts as lts
 use Rattle.reader.proofs.read_bytes.Reads as read-bytes-reads
 
--- src/lib.rt:19:5
 read-bytes-requires : tie.Need-read-bytes-requires
 read-bytes-requires c κs = search needs
 
--- src/lib.rt:15:1
 returns : tie.Need-returns
 returns c =
     (c .read-bytes .ensures, read-as-asked (now (c .before .before .args .bytes)) (reading (c .read-bytes .result)) (λ b. c .before .shared-slice-known .given b .fits) (c .read-bytes .ensures))

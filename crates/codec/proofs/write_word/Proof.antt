@@ -7,15 +7,12 @@ use Rattle.codec.proofs.write_word.Reads as reads
 use Rattle.codec.proofs.write_word.Lts as lts
 use Rattle.writer.proofs.write_buffer.Reads as write-buffer-reads
 
--- src/lib.rt:29:5
 write-buffer-requires : tie.Need-write-buffer-requires
 write-buffer-requires c κs = search needs
 
--- src/lib.rt:24:1
 same-length : tie.Need-same-length
 same-length c = search needs
 
--- src/lib.rt:24:1
 returns : tie.Need-returns
 returns c =
     let a = c .before .before .before .before .before .args in

@@ -3,7 +3,7 @@ use Prim.Native.Nat.{_-_, _≤_}
 use native.Mathlib.Omega.{arith}
 use lib.ListN.{length, length-take, length-drop}
 use borrow.Author.Needs.{needs}
-use Rattle.lister.proofs.InputLaws.{within}
+use Rattle.lister.proofs.InputLaws.{within, is-within}
 use Rattle.lister.proofs.fill.Statement.{statement}
 use Rattle.lister.proofs.fill.Tie as tie
 
@@ -31,11 +31,14 @@ read-some-requires c κs = search needs
 enum-known-more : tie.Need-enum-known-more Inv-loop μ-loop
 enum-known-more c = search needs
 
+ended-requires : tie.Need-ended-requires Inv-loop μ-loop
+ended-requires c κs = c .if1 .taken
+
 same-length : tie.Need-same-length Inv-loop μ-loop
 same-length c = omega arith
 
 returns : tie.Need-returns Inv-loop μ-loop
-returns c = omega arith
+returns c = is-within (c .ended .ensures) (omega arith)
 
 add-at : tie.Need-add-at Inv-loop μ-loop
 add-at c = let w = within (c .before .before .before .before .before .before .read-some .ensures) (c .before .before .more .given .1) in omega (arith, simp (length-take, length-drop) at w)
@@ -55,11 +58,14 @@ same-length-2 c = omega arith
 returns-2 : tie.Need-returns-2 Inv-loop μ-loop
 returns-2 c = tt
 
+full-requires : tie.Need-full-requires Inv-loop μ-loop
+full-requires c κs = omega arith
+
 same-length-3 : tie.Need-same-length-3 Inv-loop μ-loop
 same-length-3 c = omega arith
 
 returns-3 : tie.Need-returns-3 Inv-loop μ-loop
-returns-3 c = omega arith
+returns-3 c = is-within (c .full .ensures) (omega arith)
 
 pub fill-spec : {M : Type 1} → statement M
 fill-spec =
@@ -73,6 +79,7 @@ fill-spec =
     part-read-some-end
     read-some-requires
     enum-known-more
+    ended-requires
     same-length
     returns
     add-at
@@ -81,5 +88,6 @@ fill-spec =
     enum-told
     same-length-2
     returns-2
+    full-requires
     same-length-3
     returns-3)

@@ -1,5 +1,8 @@
+use mathlib.Core.Path.{ap, sym}
 use native.Mathlib.Omega.{arith}
 use lib.ListN.{length-take}
+use lib.Seq.{length-take-le}
+use Rattle.lister.specs.declared.Input.the-variants.{Bytes}
 use Rattle.lister.proofs.InputLaws.{within}
 use borrow.Author.Needs.{needs}
 use Rattle.lister.proofs.main.Statement.{statement}
@@ -17,14 +20,20 @@ enum-known-input c = search needs
 array-share-prefix-buffer : tie.Need-array-share-prefix-buffer
 array-share-prefix-buffer c = let w = within (c .before .before .before .before .fill .ensures) (c .before .input .given .1) in omega arith
 
-slice-aggregate-list : tie.Need-slice-aggregate-list
-slice-aggregate-list c = let w = within (c .before .before .before .before .before .fill .ensures) (c .before .before .input .given .1) in simp length-take (omega arith)
+slice-aggregate-report : tie.Need-slice-aggregate-report
+slice-aggregate-report c = let w = within (c .before .before .before .before .before .fill .ensures) (c .before .before .input .given .1) in simp length-take (omega arith)
 
-list-requires : tie.Need-list-requires
-list-requires c κs = search needs
+report-requires : tie.Need-report-requires
+report-requires c κs = let w = within (c .before .before .before .before .before .fill .ensures) (c .before .before .input .given .1) in ap Bytes (sym (length-take-le _ _ (omega arith)))
 
 enum-told : tie.Need-enum-told
 enum-told c = search needs
+
+slice-aggregate-complain : tie.Need-slice-aggregate-complain
+slice-aggregate-complain c = search needs
+
+complain-requires : tie.Need-complain-requires
+complain-requires c κs = search needs
 
 returns : tie.Need-returns
 returns c = search needs
@@ -40,8 +49,10 @@ main-spec =
     fill-requires
     enum-known-input
     array-share-prefix-buffer
-    slice-aggregate-list
-    list-requires
+    slice-aggregate-report
+    report-requires
     enum-told
+    slice-aggregate-complain
+    complain-requires
     returns
     returns-2)

@@ -11,33 +11,26 @@ use Rattle.bits.proofs.fields.bits_at.Reads as bits-at-reads
 use Rattle.lookup.proofs.group_at.Reads as group-at-reads
 use Rattle.lookup.proofs.line_at.Reads as line-at-reads
 
--- src/lib.rt:185:9
 bits-at-requires : tie.Need-bits-at-requires
 bits-at-requires c κs = search needs
 
--- src/lib.rt:186:22
 mul-group-at : tie.Need-mul-group-at
 mul-group-at c = search needs
 
--- src/lib.rt:186:9
 group-at-requires : tie.Need-group-at-requires
 group-at-requires c κs = search needs
 
--- src/lib.rt:188:9
 line-at-requires : tie.Need-line-at-requires
 line-at-requires c κs = search needs
 
--- src/lib.rt:188:9
 returns : tie.Need-returns
 returns c =
     let w = c .before .before .before .before .before .args .w in
     line-led w (leads-out w (c .before .before .before .before .bits-at .ensures .0) (c .before .before .before .group-at .ensures) (c .before .if1 .taken) (c .line-at .ensures))
 
--- src/lib.rt:190:24
 shr-line-at : tie.Need-shr-line-at
 shr-line-at c = search needs
 
--- src/lib.rt:190:13
 add-line-at : tie.Need-add-line-at
 add-line-at c =
     let g = c .before .before .before .before .before .group-at in
@@ -45,11 +38,9 @@ add-line-at c =
     let lc : g .result .cell < 256 = rw (g .ensures) (group-at-lt _ .1) in
     record { fits = omega (arith, lm, lc, and-le-r (c .before .before .before .before .before .before .before .args .w / 2 ^ (g .result .low % 64)) (g .result .mask)) }
 
--- src/lib.rt:190:5
 line-at-requires-2 : tie.Need-line-at-requires-2
 line-at-requires-2 c κs = search needs
 
--- src/lib.rt:182:1
 returns-2 : tie.Need-returns-2
 returns-2 c =
     let w = c .before .before .before .before .before .before .before .before .args .w in

@@ -8,47 +8,36 @@ use Rattle.lookup.proofs.line_with.Reads as reads
 use Rattle.lookup.proofs.line_with.Lts as lts
 use Rattle.bits.proofs.fields.bits_at.Reads as bits-at-reads
 
--- src/lib.rt:39:21
 array-read-t6 : tie.Need-array-read-t6
 array-read-t6 c = search needs
 
--- src/lib.rt:40:16
 array-read-t9 : tie.Need-array-read-t9
 array-read-t9 c = search needs
 
--- src/lib.rt:40:29
 array-read-t13 : tie.Need-array-read-t13
 array-read-t13 c = search needs
 
--- src/lib.rt:40:45
 array-read-bits-at : tie.Need-array-read-bits-at
 array-read-bits-at c = search needs
 
--- src/lib.rt:40:37
 bits-at-requires : tie.Need-bits-at-requires
 bits-at-requires c κs = search needs
 
--- src/lib.rt:40:29
 shl-t18 : tie.Need-shl-t18
 shl-t18 c = search needs
 
--- src/lib.rt:41:16
 array-read-t22 : tie.Need-array-read-t22
 array-read-t22 c = search needs
 
--- src/lib.rt:42:17
 array-read-t25 : tie.Need-array-read-t25
 array-read-t25 c = search needs
 
--- src/lib.rt:43:20
 array-read-t28 : tie.Need-array-read-t28
 array-read-t28 c = search needs
 
--- src/lib.rt:44:16
 array-read-t31 : tie.Need-array-read-t31
 array-read-t31 c = search needs
 
--- src/lib.rt:35:1
 returns : tie.Need-returns
 returns c =
     let a = c .before .args in

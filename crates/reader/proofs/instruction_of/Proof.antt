@@ -17,67 +17,51 @@ use Rattle.reader.proofs.sources_in.Reads as sources-in-reads
 use Rattle.record.proofs.modifiers.modifiers_in.Reads as modifiers-in-reads
 use Rattle.record.proofs.offset.offset_of.Reads as offset-of-reads
 
--- src/lib.rt:41:9
 sources-in-requires : tie.Need-sources-in-requires
 sources-in-requires c κs = search needs
 
--- src/lib.rt:42:9
 modifiers-in-requires : tie.Need-modifiers-in-requires
 modifiers-in-requires c κs = search needs
 
--- src/lib.rt:43:28
 bits-at-requires : tie.Need-bits-at-requires
 bits-at-requires c κs = search needs
 
--- src/lib.rt:43:48
 bits-at-requires-2 : tie.Need-bits-at-requires-2
 bits-at-requires-2 c κs = search needs
 
--- src/lib.rt:43:28
 mul-offset-of : tie.Need-mul-offset-of
 mul-offset-of c = record { fits = omega (arith, times-bit _ _ 134217728 (c .before .bits-at .ensures .1) (c .bits-at2 .ensures .1)) }
 
--- src/lib.rt:43:9
 offset-of-requires : tie.Need-offset-of-requires
 offset-of-requires c κs = times-bit _ _ 134217728 (c .before .bits-at .ensures .1) (c .bits-at2 .ensures .1)
 
--- src/lib.rt:45:14
 cast-t9 : tie.Need-cast-t9
 cast-t9 c = let x = c .before .before .before .before .before .before .pre in record { fits = omega (arith, row-known (x .0) _ _ (x .1), x .1 .in-table) }
 
--- src/lib.rt:46:15
 bits-at-requires-3 : tie.Need-bits-at-requires-3
 bits-at-requires-3 c κs = search needs
 
--- src/lib.rt:46:15
 cast-t10 : tie.Need-cast-t10
 cast-t10 c = search needs
 
--- src/lib.rt:47:15
 bits-at-requires-4 : tie.Need-bits-at-requires-4
 bits-at-requires-4 c κs = search needs
 
--- src/lib.rt:47:15
 cast-t11 : tie.Need-cast-t11
 cast-t11 c = search needs
 
--- src/lib.rt:48:19
 bits-at-requires-5 : tie.Need-bits-at-requires-5
 bits-at-requires-5 c κs = search needs
 
--- src/lib.rt:48:19
 cast-t13 : tie.Need-cast-t13
 cast-t13 c = search needs
 
--- src/lib.rt:49:20
 bits-at-requires-6 : tie.Need-bits-at-requires-6
 bits-at-requires-6 c κs = search needs
 
--- src/lib.rt:49:20
 cast-t15 : tie.Need-cast-t15
 cast-t15 c = search needs
 
--- src/lib.rt:37:1
 returns : tie.Need-returns
 returns c =
     λ k n j.

@@ -8,19 +8,15 @@ use Rattle.reader.proofs.read_bytes.Lts as lts
 use Rattle.bits.proofs.bytes.load64.Reads as load64-reads
 use Rattle.reader.proofs.read_number.Reads as read-number-reads
 
--- src/lib.rt:71:9
 returns : tie.Need-returns
 returns c = wrong-length (now (c .before .before .args .bytes)) (c .if1 .taken)
 
--- src/lib.rt:76:17
 load64-requires : tie.Need-load64-requires
 load64-requires c κs = search needs
 
--- src/lib.rt:76:5
 read-number-requires : tie.Need-read-number-requires
 read-number-requires c κs = search needs
 
--- src/lib.rt:67:1
 returns-2 : tie.Need-returns-2
 returns-2 c = right-length (now (c .before .before .before .before .args .bytes)) (c .before .before .if1 .left) (c .before .load64 .ensures) (c .read-number .ensures)
 

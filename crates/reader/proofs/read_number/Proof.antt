@@ -9,31 +9,25 @@ use Rattle.reader.proofs.read_number.Lts as lts
 use Rattle.reader.proofs.instruction_of.Reads as instruction-of-reads
 use Rattle.reader.proofs.judge.judge_word.Reads as judge-word-reads
 
--- src/lib.rt:60:11
 judge-word-requires : tie.Need-judge-word-requires
 judge-word-requires c κs = search needs
 
--- src/lib.rt:61:22
 enum-known-f : tie.Need-enum-known-f
 enum-known-f c = search needs
 
--- src/lib.rt:61:42
 instruction-of-requires : tie.Need-instruction-of-requires
 instruction-of-requires c κs =
     let e = subst (Judges (c .before .before .before .before .args .w)) (c .before .f .given .1) (c .before .before .before .judge-word .ensures) in
     (e .0, e .1 .0)
 
--- src/lib.rt:62:25
 enum-known-r : tie.Need-enum-known-r
 enum-known-r c = search needs
 
--- src/lib.rt:57:1
 returns : tie.Need-returns
 returns c =
     let e = subst (Judges (c .before .before .before .before .before .args .w)) (c .before .before .f .given .1) (c .before .before .before .before .judge-word .ensures) in
     ap gives (c .instruction-of .ensures (e .0) (e .1 .0)) ∙ sym (e .1 .1)
 
--- src/lib.rt:57:1
 returns-2 : tie.Need-returns-2
 returns-2 c = sym (subst (Judges (c .before .before .before .before .args .w)) (c .before .r .given .1) (c .before .before .before .judge-word .ensures))
 

@@ -5,39 +5,30 @@ use Rattle.reader.proofs.sources_in.Reads as reads
 use Rattle.reader.proofs.sources_in.Lts as lts
 use Rattle.bits.proofs.fields.bits_at.Reads as bits-at-reads
 
--- src/lib.rt:29:13
 bits-at-requires : tie.Need-bits-at-requires
 bits-at-requires c κs = search needs
 
--- src/lib.rt:29:13
 cast-t3 : tie.Need-cast-t3
 cast-t3 c = search needs
 
--- src/lib.rt:30:13
 bits-at-requires-2 : tie.Need-bits-at-requires-2
 bits-at-requires-2 c κs = search needs
 
--- src/lib.rt:30:13
 cast-t5 : tie.Need-cast-t5
 cast-t5 c = search needs
 
--- src/lib.rt:31:13
 bits-at-requires-3 : tie.Need-bits-at-requires-3
 bits-at-requires-3 c κs = search needs
 
--- src/lib.rt:31:13
 cast-t7 : tie.Need-cast-t7
 cast-t7 c = search needs
 
--- src/lib.rt:32:13
 bits-at-requires-4 : tie.Need-bits-at-requires-4
 bits-at-requires-4 c κs = search needs
 
--- src/lib.rt:32:13
 cast-t9 : tie.Need-cast-t9
 cast-t9 c = search needs
 
--- src/lib.rt:25:1
 returns : tie.Need-returns
 returns c =
     λ j.

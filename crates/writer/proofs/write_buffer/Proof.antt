@@ -22,11 +22,9 @@ use Rattle.writer.proofs.room.numbers_fit.Reads as numbers-fit-reads
 use Rattle.writer.proofs.same.is_record.Reads as is-record-reads
 use Rattle.writer.proofs.word.word_of.Reads as word-of-reads
 
--- src/lib.rt:37:9
 refused-requires : tie.Need-refused-requires
 refused-requires c κs = search needs
 
--- src/lib.rt:37:9
 returns : tie.Need-returns
 returns c =
     let i = c .before .before .before .args .i in
@@ -34,15 +32,12 @@ returns c =
     let e = wrong-buffer i bs (c .before .if1 .taken) in
     (c .refused .ensures ∙ e .0, e .1)
 
--- src/lib.rt:39:29
 cast-if2 : tie.Need-cast-if2
 cast-if2 c = search needs
 
--- src/lib.rt:40:9
 refused-requires-2 : tie.Need-refused-requires-2
 refused-requires-2 c κs = search needs
 
--- src/lib.rt:40:9
 returns-2 : tie.Need-returns-2
 returns-2 c =
     let i = c .before .before .before .before .before .args .i in
@@ -50,23 +45,18 @@ returns-2 c =
     let e = off-table i bs (c .before .before .before .if1 .left) (c .before .if2 .taken) in
     (c .refused2 .ensures ∙ e .0, e .1)
 
--- src/lib.rt:42:27
 cast-row-at : tie.Need-cast-row-at
 cast-row-at c = search needs
 
--- src/lib.rt:42:9
 row-at-requires : tie.Need-row-at-requires
 row-at-requires c κs = search needs
 
--- src/lib.rt:43:9
 numbers-fit-requires : tie.Need-numbers-fit-requires
 numbers-fit-requires c κs = search needs
 
--- src/lib.rt:44:9
 refused-requires-3 : tie.Need-refused-requires-3
 refused-requires-3 c κs = search needs
 
--- src/lib.rt:44:9
 returns-3 : tie.Need-returns-3
 returns-3 c =
     let i = c .before .before .before .before .before .before .before .before .before .args .i in
@@ -74,36 +64,28 @@ returns-3 c =
     let e = no-room-in i bs (c .before .before .before .before .before .before .before .if1 .left) (omega (arith, c .before .before .before .before .before .if2 .left)) (c .before .before .numbers-fit .ensures) (not-true _ (c .before .if3 .taken)) in
     (c .refused3 .ensures ∙ e .0, e .1)
 
--- src/lib.rt:46:9
 word-of-requires : tie.Need-word-of-requires
 word-of-requires c κs =
     (c .before .before .row-at .ensures, (omega (arith, c .before .before .before .before .if2 .left)), sym (c .before .numbers-fit .ensures) ∙ (not-false _ (c .if3 .left)))
 
--- src/lib.rt:47:11
 judge-word-requires : tie.Need-judge-word-requires
 judge-word-requires c κs = search needs
 
--- src/lib.rt:48:25
 enum-known-f : tie.Need-enum-known-f
 enum-known-f c = search needs
 
--- src/lib.rt:50:27
 enum-told : tie.Need-enum-told
 enum-told c = search needs
 
--- src/lib.rt:50:27
 read-number-requires : tie.Need-read-number-requires
 read-number-requires c κs = search needs
 
--- src/lib.rt:50:17
 is-record-requires : tie.Need-is-record-requires
 is-record-requires c κs = search needs
 
--- src/lib.rt:51:17
 refused-requires-4 : tie.Need-refused-requires-4
 refused-requires-4 c κs = search needs
 
--- src/lib.rt:51:17
 returns-4 : tie.Need-returns-4
 returns-4 c =
     let i = c .before .before .before .before .before .before .before .before .before .before .before .before .before .before .before .before .args .i in
@@ -111,22 +93,18 @@ returns-4 c =
     let e = unread i bs (c .before .before .before .before .before .before .before .before .before .before .before .before .before .before .if1 .left) (omega (arith, c .before .before .before .before .before .before .before .before .before .before .before .before .if2 .left)) (c .before .before .before .before .before .before .before .before .before .numbers-fit .ensures) (not-false _ (c .before .before .before .before .before .before .before .before .if3 .left)) (c .before .before .before .before .before .before .before .word-of .ensures) refl (subst (Judges (c .before .before .before .before .before .before .before .word-of .result)) (c .before .before .before .before .enum-told .given .1) (c .before .before .before .before .before .before .judge-word .ensures) .1 .1) (c .before .before .is-record .ensures ∙ ap (λ (o : Outcome Refusal Instruction). is-record o i) (c .before .before .before .read-number .ensures)) (not-true _ (c .before .if4 .taken)) in
     (c .refused4 .ensures ∙ e .0, e .1)
 
--- src/lib.rt:53:13
 store64-requires : tie.Need-store64-requires
 store64-requires c κs = search needs
 
--- src/lib.rt:32:1
 returns-5 : tie.Need-returns-5
 returns-5 c =
     let i = c .before .before .before .before .before .before .before .before .before .before .before .before .before .args .i in
     let bs = now (c .before .before .before .before .before .before .before .before .before .before .before .before .before .args .buffer) in
     declined i bs (c .before .before .before .before .before .before .before .before .before .before .before .if1 .left) (omega (arith, c .before .before .before .before .before .before .before .before .before .if2 .left)) (c .before .before .before .before .before .before .numbers-fit .ensures) (not-false _ (c .before .before .before .before .before .if3 .left)) (c .before .before .before .before .word-of .ensures) refl (subst (Judges (c .before .before .before .before .word-of .result)) (c .before .f .given .1) (c .before .before .before .judge-word .ensures))
 
--- src/lib.rt:32:1
 same-length : tie.Need-same-length
 same-length c = search needs
 
--- src/lib.rt:32:1
 returns-6 : tie.Need-returns-6
 returns-6 c =
     let i = c .before .before .before .before .before .before .before .before .before .before .before .before .before .before .before .before .before .before .before .args .i in

@@ -19,103 +19,78 @@ use Rattle.bytes.proofs.copy.Reads as copy-reads
 use Rattle.capi.proofs.form.offset_bits.Reads as offset-bits-reads
 use Rattle.record.proofs.instruction.Modifiers.list.Reads as list-reads
 
--- src/form.rt:39:9
 offset-bits-requires : tie.Need-offset-bits-requires
 offset-bits-requires c κs = search needs
 
--- src/form.rt:41:13
 list-requires : tie.Need-list-requires
 list-requires c κs = search needs
 
--- src/form.rt:43:5
 array-write-f : tie.Need-array-write-f
 array-write-f c = search needs
 
--- src/form.rt:44:5
 array-write-f-2 : tie.Need-array-write-f-2
 array-write-f-2 c = search needs
 
--- src/form.rt:45:5
 array-write-f-3 : tie.Need-array-write-f-3
 array-write-f-3 c = search needs
 
--- src/form.rt:46:5
 array-write-f-4 : tie.Need-array-write-f-4
 array-write-f-4 c = search needs
 
--- src/form.rt:47:5
 array-write-f-5 : tie.Need-array-write-f-5
 array-write-f-5 c = search needs
 
--- src/form.rt:48:5
 array-write-f-6 : tie.Need-array-write-f-6
 array-write-f-6 c = search needs
 
--- src/form.rt:49:5
 array-write-f-7 : tie.Need-array-write-f-7
 array-write-f-7 c = search needs
 
--- src/form.rt:50:5
 array-write-f-8 : tie.Need-array-write-f-8
 array-write-f-8 c = search needs
 
--- src/form.rt:51:5
 array-write-f-9 : tie.Need-array-write-f-9
 array-write-f-9 c = search needs
 
--- src/form.rt:52:13
 cast-f : tie.Need-cast-f
 cast-f c = search needs
 
--- src/form.rt:52:5
 array-write-f-10 : tie.Need-array-write-f-10
 array-write-f-10 c = search needs
 
--- src/form.rt:53:13
 cast-f-2 : tie.Need-cast-f-2
 cast-f-2 c = search needs
 
--- src/form.rt:53:5
 array-write-f-11 : tie.Need-array-write-f-11
 array-write-f-11 c = search needs
 
--- src/form.rt:54:13
 cast-f-3 : tie.Need-cast-f-3
 cast-f-3 c = search needs
 
--- src/form.rt:54:5
 array-write-f-12 : tie.Need-array-write-f-12
 array-write-f-12 c = search needs
 
--- src/form.rt:55:13
 cast-f-4 : tie.Need-cast-f-4
 cast-f-4 c = search needs
 
--- src/form.rt:55:5
 array-write-f-13 : tie.Need-array-write-f-13
 array-write-f-13 c = search needs
 
--- src/form.rt:56:17
 slice-aggregate-copy : tie.Need-slice-aggregate-copy
 slice-aggregate-copy c = search needs
 
--- src/form.rt:56:21
 sub-copy : tie.Need-sub-copy
 sub-copy c = search needs
 
--- src/form.rt:56:21
 part-f-start : tie.Need-part-f-start
 part-f-start c = search needs
 
--- src/form.rt:56:21
 part-f-end : tie.Need-part-f-end
 part-f-end c = search needs
 
--- src/form.rt:56:5
 copy-requires : tie.Need-copy-requires
 copy-requires c κs = search needs
 
--- src/form.rt:36:1
 returns : tie.Need-returns
 returns c =
     let i = c .before .before .before .before .before .before .before .before .args .i in

@@ -23,127 +23,96 @@ use Rattle.record.proofs.instruction.Modifiers.of.Reads as of-reads
 long : (c : tie.Start) → length (c .args .t1) ≡ 32
 long c = omega arith
 
--- src/form.rt:72:17
 sub-copy : tie.Need-sub-copy
 sub-copy c = search needs
 
--- src/form.rt:72:17
 part-copy-start : tie.Need-part-copy-start
 part-copy-start c = search needs
 
--- src/form.rt:72:17
 part-copy-end : tie.Need-part-copy-end
 part-copy-end c = search needs
 
--- src/form.rt:72:28
 slice-aggregate-copy : tie.Need-slice-aggregate-copy
 slice-aggregate-copy c = search needs
 
--- src/form.rt:72:5
 copy-requires : tie.Need-copy-requires
 copy-requires c κs = search needs
 
--- src/form.rt:73:18
 array-read-wide : tie.Need-array-read-wide
 array-read-wide c = search needs
 
--- src/form.rt:73:13
 wide-requires : tie.Need-wide-requires
 wide-requires c κs = search needs
 
--- src/form.rt:73:39
 array-read-wide-2 : tie.Need-array-read-wide-2
 array-read-wide-2 c = search needs
 
--- src/form.rt:73:34
 wide-requires-2 : tie.Need-wide-requires-2
 wide-requires-2 c κs = search needs
 
--- src/form.rt:73:60
 array-read-wide-3 : tie.Need-array-read-wide-3
 array-read-wide-3 c = search needs
 
--- src/form.rt:73:55
 wide-requires-3 : tie.Need-wide-requires-3
 wide-requires-3 c κs = search needs
 
--- src/form.rt:73:80
 array-read-wide-4 : tie.Need-array-read-wide-4
 array-read-wide-4 c = search needs
 
--- src/form.rt:73:75
 wide-requires-4 : tie.Need-wide-requires-4
 wide-requires-4 c κs = search needs
 
--- src/form.rt:73:69
 mul-n : tie.Need-mul-n
 mul-n c = search needs
 
--- src/form.rt:73:55
 add-n : tie.Need-add-n
 add-n c = search needs
 
--- src/form.rt:73:48
 mul-n-2 : tie.Need-mul-n-2
 mul-n-2 c = search needs
 
--- src/form.rt:73:34
 add-n-2 : tie.Need-add-n-2
 add-n-2 c = search needs
 
--- src/form.rt:73:27
 mul-n-3 : tie.Need-mul-n-3
 mul-n-3 c = search needs
 
--- src/form.rt:73:13
 add-n-3 : tie.Need-add-n-3
 add-n-3 c = search needs
 
--- src/form.rt:75:14
 array-read-t16 : tie.Need-array-read-t16
 array-read-t16 c = search needs
 
--- src/form.rt:76:15
 array-read-t20 : tie.Need-array-read-t20
 array-read-t20 c = search needs
 
--- src/form.rt:77:15
 array-read-t24 : tie.Need-array-read-t24
 array-read-t24 c = search needs
 
--- src/form.rt:78:19
 array-read-t28 : tie.Need-array-read-t28
 array-read-t28 c = search needs
 
--- src/form.rt:79:20
 array-read-t44 : tie.Need-array-read-t44
 array-read-t44 c = search needs
 
--- src/form.rt:81:17
 array-read-t47 : tie.Need-array-read-t47
 array-read-t47 c = search needs
 
--- src/form.rt:82:17
 array-read-t50 : tie.Need-array-read-t50
 array-read-t50 c = search needs
 
--- src/form.rt:83:17
 array-read-t53 : tie.Need-array-read-t53
 array-read-t53 c = search needs
 
--- src/form.rt:84:17
 array-read-t56 : tie.Need-array-read-t56
 array-read-t56 c = search needs
 
--- src/form.rt:86:20
 of-requires : tie.Need-of-requires
 of-requires c κs = search needs
 
--- src/form.rt:87:17
 offset-in-requires : tie.Need-offset-in-requires
 offset-in-requires c κs = search needs
 
--- src/form.rt:68:1
 returns : tie.Need-returns
 returns c =
     let f = c .before .before .before .before .before .before .before .before .before .before .before .args .t1 in

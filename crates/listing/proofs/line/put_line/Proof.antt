@@ -1,36 +1,12 @@
-use mathlib.Core.Path.{ap, _∙_}
-use Prim.Native.Nat.{ℕ, _*_}
-use native.Mathlib.Nat.{add-sub-cancel-left}
 use native.Mathlib.Omega.{arith}
-use lib.ListN.{take, drop}
-use denote.Ref.{now}
-use Rattle.bits.specs.Bytes.{little}
 use Rattle.listing.proofs.TextLaws.{put-next}
 use Rattle.listing.proofs.LineLaws.{line-put}
 use borrow.Author.Needs.{needs}
 use Rattle.listing.proofs.line.put_line.Statement.{statement}
 use Rattle.listing.proofs.line.put_line.Tie as tie
 
-mul-start : tie.Need-mul-start
-mul-start c = search needs
-
-add-end : tie.Need-add-end
-add-end c = search needs
-
-sub-load64 : tie.Need-sub-load64
-sub-load64 c = search needs
-
-part-load64-start : tie.Need-part-load64-start
-part-load64-start c = search needs
-
-part-load64-end : tie.Need-part-load64-end
-part-load64-end c = search needs
-
-load64-requires : tie.Need-load64-requires
-load64-requires c κs = search needs
-
-reading-at-requires : tie.Need-reading-at-requires
-reading-at-requires c κs = search needs
+read-number-requires : tie.Need-read-number-requires
+read-number-requires c κs = search needs
 
 put-digits-requires : tie.Need-put-digits-requires
 put-digits-requires c κs = search needs
@@ -85,9 +61,8 @@ same-length c = search needs
 
 returns : tie.Need-returns
 returns c =
-    let a = c .before .before .before .before .before .before .before .before .before .before .before .before .before .before .before .before .before .before .before .before .before .args in
-    let w = now (a .words) in (
-      line-put w (a .i) (c .before .before .before .before .before .before .before .before .before .before .before .before .before .before .before .before .before .load64 .ensures ∙ ap (λ (k : ℕ). little (take k (drop (8 * a .i) w))) (add-sub-cancel-left (8 * a .i) 8)) (c .before .before .before .before .before .before .before .before .before .before .before .before .before .before .before .before .reading-at .ensures)
+    let a = c .before .before .before .before .before .before .before .before .before .before .before .before .before .before .before .before .before .before .args in (
+      line-put (a .i) (a .w) (c .before .before .before .before .before .before .before .before .before .before .before .before .before .before .before .before .read-number .ensures)
           (put-next (put-next (put-next (c .before .before .before .before .before .before .before .before .before .before .before .before .before .before .put-digits .ensures .0) (c .before .before .before .before .before .before .before .before .before .before .put-spaced .ensures .0)) (c .before .before .before .before .before .before .put-reading .ensures .0)) (c .before .before .put-byte .ensures)),
       omega arith,
     )
@@ -96,13 +71,7 @@ pub put-line-spec : {M : Type 1} → statement M
 put-line-spec =
     tie.close
     (tie.spec
-    mul-start
-    add-end
-    sub-load64
-    part-load64-start
-    part-load64-end
-    load64-requires
-    reading-at-requires
+    read-number-requires
     put-digits-requires
     sub-put-spaced
     part-put-spaced-start

@@ -4,39 +4,56 @@ use native.Mathlib.Numerals.{add-one}
 use native.Mathlib.Omega.{arith}
 use lib.ListN.{length, length-take, length-drop}
 use denote.Ref.{now}
+use Rattle.container.specs.Container.{count-of, words-of}
+use Rattle.container.proofs.WordLaws.{opened-count}
 use Rattle.listing.specs.Text.{Put}
 use Rattle.listing.specs.Listing.{lines, longest-line}
 use Rattle.listing.proofs.TextLaws.{put-next}
+use borrow.Author.Needs.{needs}
 use Rattle.listing.proofs.line.put_lines.Statement.{statement}
 use Rattle.listing.proofs.line.put_lines.Tie as tie
 
 abbrev Inv-loop : tie.InvT-loop
-Inv-loop names words n out₀ at₀ i₀ out at i =
-    (i ≤ n) × (at ≤ longest-line * i) × (length out ≡ length out₀) × Put (lines words i) out₀ out at
+Inv-loop bytes out₀ names n at₀ i₀ out at i =
+    (i ≤ n) × (at ≤ longest-line * i) × (length out ≡ length out₀) × Put (lines (words-of bytes) i) out₀ out at
 
 abbrev μ-loop : tie.MeasureT-loop
-μ-loop names words n out₀ at₀ i₀ out at i = n - i
+μ-loop bytes out₀ names n at₀ i₀ out at i = n - i
+
+all-requires : tie.Need-all-requires Inv-loop μ-loop
+all-requires c κs = search needs
+
+open-count-requires : tie.Need-open-count-requires Inv-loop μ-loop
+open-count-requires c κs = search needs
 
 loop-holds : tie.Need-loop-holds Inv-loop μ-loop
 unfolding lines
 loop-holds c = (omega arith, omega arith, refl, record { counts = refl; fills = refl })
 
-sub-put-line : tie.Need-sub-put-line Inv-loop μ-loop
-sub-put-line c = omega arith
+sub-put-word : tie.Need-sub-put-word Inv-loop μ-loop
+sub-put-word c =
+    let e = opened-count _ (c .before .before .before .before .before .before .before .pre .0) in
+    omega arith
 
-part-put-line-start : tie.Need-part-put-line-start Inv-loop μ-loop
-part-put-line-start c = omega arith
+part-put-word-start : tie.Need-part-put-word-start Inv-loop μ-loop
+part-put-word-start c =
+    let e = opened-count _ (c .before .before .before .before .before .before .before .pre .0) in
+    omega arith
 
-part-put-line-end : tie.Need-part-put-line-end Inv-loop μ-loop
-part-put-line-end c = omega arith
+part-put-word-end : tie.Need-part-put-word-end Inv-loop μ-loop
+part-put-word-end c =
+    let e = opened-count _ (c .before .before .before .before .before .before .before .pre .0) in
+    omega arith
 
-put-line-requires : tie.Need-put-line-requires Inv-loop μ-loop
-put-line-requires c κs =
-    let p = c .before .before .before .before .before .pre in
-    (p .0, c .before .loop-test .taken, p .1, simp (length-take, length-drop) (omega arith))
+put-word-requires : tie.Need-put-word-requires Inv-loop μ-loop
+put-word-requires c κs =
+    let e = opened-count _ (c .before .before .before .before .before .before .before .before .pre .0) in
+    (c .before .before .before .before .before .before .before .before .pre .0, omega (arith, c .before .before .loop-test .taken), c .before .before .before .before .before .all .ensures, simp (length-take, length-drop) (omega arith))
 
 add-at : tie.Need-add-at Inv-loop μ-loop
-add-at c = omega arith
+add-at c =
+    let e = opened-count _ (c .before .before .before .before .before .before .before .before .before .before .before .pre .0) in
+    omega arith
 
 add-i : tie.Need-add-i Inv-loop μ-loop
 add-i c = omega arith
@@ -47,17 +64,19 @@ loop-less c = omega arith
 loop-again : tie.Need-loop-again Inv-loop μ-loop
 unfolding lines
 loop-again c =
-    let l = c .before .before .before .before .before .loop in
-    (omega arith, omega arith, omega arith, rw (add-one (l .i)) (put-next (l .inv .3) (c .before .before .put-line .ensures .0)))
+    let l = c .before .before .before .before .before .before .loop in
+    (omega arith, omega arith, omega arith, rw (add-one (l .i)) (put-next (l .inv .3) (c .before .before .put-word .ensures .0)))
 
 same-length : tie.Need-same-length Inv-loop μ-loop
 same-length c = omega arith
 
 returns : tie.Need-returns Inv-loop μ-loop
 returns c =
+    let a = c .before .before .before .before .before .before .args in
     let l = c .before .loop in
-    let e : l .i ≡ c .before .before .before .before .args .n = omega arith in
-    (subst (λ (i : ℕ). Put (lines (now (c .before .before .before .before .args .words)) i) (now (c .before .before .before .before .args .out)) (l .out) (l .at)) e (l .inv .3), omega arith)
+    let o = opened-count _ (c .before .before .before .before .before .before .pre .0) in
+    let e : l .i ≡ count-of (now (a .bytes)) = omega arith in
+    (subst (λ (i : ℕ). Put (lines (words-of (now (a .bytes))) i) (now (a .out)) (l .out) (l .at)) e (l .inv .3), omega arith)
 
 pub put-lines-spec : {M : Type 1} → statement M
 put-lines-spec =
@@ -65,11 +84,13 @@ put-lines-spec =
     (tie.spec
     Inv-loop
     μ-loop
+    all-requires
+    open-count-requires
     loop-holds
-    sub-put-line
-    part-put-line-start
-    part-put-line-end
-    put-line-requires
+    sub-put-word
+    part-put-word-start
+    part-put-word-end
+    put-word-requires
     add-at
     add-i
     loop-less

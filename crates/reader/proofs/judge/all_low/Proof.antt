@@ -5,7 +5,6 @@ use Rattle.reader.proofs.judge.all_low.Tie as tie
 use Rattle.reader.proofs.judge.all_low.Reads as reads
 use Rattle.reader.proofs.judge.all_low.Lts as lts
 
--- src/judge.rt:49:1
 returns : tie.Need-returns
 returns c = λ e j h. low-bytes (c .args .v) (eqb-true _ _ e) j h
 

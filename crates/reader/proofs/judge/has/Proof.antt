@@ -8,11 +8,9 @@ use Rattle.reader.proofs.judge.has.Reads as reads
 use Rattle.reader.proofs.judge.has.Lts as lts
 use Rattle.bits.proofs.fields.bits_at.Reads as bits-at-reads
 
--- src/judge.rt:45:5
 bits-at-requires : tie.Need-bits-at-requires
 bits-at-requires c κs = search needs
 
--- src/judge.rt:41:1
 returns : tie.Need-returns
 returns c = ap (λ (x : ℕ). eqb x 1) (c .bits-at .ensures .0)
 

@@ -15,19 +15,15 @@ use Rattle.reader.proofs.judge.modifiers_ok.Reads as modifiers-ok-reads
 use Rattle.reader.proofs.judge.refuse.Reads as refuse-reads
 use Rattle.reader.proofs.judge.refuse_modifier.Reads as refuse-modifier-reads
 
--- src/judge.rt:122:20
 bits-at-requires : tie.Need-bits-at-requires
 bits-at-requires c κs = search needs
 
--- src/judge.rt:122:9
 has-requires : tie.Need-has-requires
 has-requires c κs = search needs
 
--- src/judge.rt:123:9
 refuse-requires : tie.Need-refuse-requires
 refuse-requires c κs = search needs
 
--- src/judge.rt:123:9
 returns : tie.Need-returns
 returns c =
     let w = c .before .before .before .before .args .w in
@@ -35,15 +31,12 @@ returns c =
     let pre = c .before .before .before .before .pre in
     fields-4 w hw (c .before .before .before .before .args .l) (pre .0) (pre .1) (c .before .before .has .ensures) (c .before .before .before .bits-at .ensures .0) (not-true _ (c .before .if1 .taken)) (c .refuse .ensures)
 
--- src/judge.rt:125:8
 bits-at-requires-2 : tie.Need-bits-at-requires-2
 bits-at-requires-2 c κs = search needs
 
--- src/judge.rt:126:9
 refuse-requires-2 : tie.Need-refuse-requires-2
 refuse-requires-2 c κs = search needs
 
--- src/judge.rt:126:9
 returns-2 : tie.Need-returns-2
 returns-2 c =
     let w = c .before .before .before .before .before .before .before .args .w in
@@ -51,15 +44,12 @@ returns-2 c =
     let pre = c .before .before .before .before .before .before .before .pre in
     fields-5 w hw (c .before .before .before .before .before .before .before .args .l) (pre .0) (pre .1) (c .before .before .before .before .before .has .ensures) (c .before .before .before .before .before .before .bits-at .ensures .0) (not-false _ (c .before .before .before .before .if1 .left)) (c .before .before .bits-at2 .ensures .0) (c .before .if2 .taken) (c .refuse2 .ensures)
 
--- src/judge.rt:128:9
 modifiers-ok-requires : tie.Need-modifiers-ok-requires
 modifiers-ok-requires c κs = search needs
 
--- src/judge.rt:129:9
 refuse-modifier-requires : tie.Need-refuse-modifier-requires
 refuse-modifier-requires c κs = search needs
 
--- src/judge.rt:129:9
 returns-3 : tie.Need-returns-3
 returns-3 c =
     let w = c .before .before .before .before .before .before .before .before .before .args .w in
@@ -67,11 +57,9 @@ returns-3 c =
     let pre = c .before .before .before .before .before .before .before .before .before .pre in
     fields-6 w hw (c .before .before .before .before .before .before .before .before .before .args .l) (pre .0) (pre .1) (c .before .before .before .before .before .before .before .has .ensures) (c .before .before .before .before .before .before .before .before .bits-at .ensures .0) (not-false _ (c .before .before .before .before .before .before .if1 .left)) (c .before .before .before .before .bits-at2 .ensures .0) (c .before .before .before .if2 .left) (c .before .before .modifiers-ok .ensures) (not-true _ (c .before .if3 .taken)) (c .refuse-modifier .ensures)
 
--- src/judge.rt:137:8
 all-low-requires : tie.Need-all-low-requires
 all-low-requires c κs = search needs
 
--- src/judge.rt:138:9
 returns-4 : tie.Need-returns-4
 returns-4 c =
     let w = c .before .before .before .before .before .before .before .before .before .before .before .args .w in
@@ -79,11 +67,9 @@ returns-4 c =
     let pre = c .before .before .before .before .before .before .before .before .before .before .before .pre in
     fields-low w hw (c .before .before .before .before .before .before .before .before .before .before .before .args .l) (pre .0) (pre .1) (c .before .before .before .before .before .before .before .before .before .has .ensures) (c .before .before .before .before .before .before .before .before .before .before .bits-at .ensures .0) (not-false _ (c .before .before .before .before .before .before .before .before .if1 .left)) (c .before .before .before .before .before .before .bits-at2 .ensures .0) (c .before .before .before .before .before .if2 .left) (c .before .before .before .before .modifiers-ok .ensures) (not-false _ (c .before .before .before .if3 .left)) _ refl (c .before .all-low .ensures (c .if4 .taken)) refl
 
--- src/judge.rt:140:5
 judge-sources-requires : tie.Need-judge-sources-requires
 judge-sources-requires c κs = search needs
 
--- src/judge.rt:118:1
 returns-5 : tie.Need-returns-5
 returns-5 c =
     let w = c .before .before .before .before .before .before .before .before .before .before .before .before .args .w in

@@ -10,42 +10,33 @@ use Rattle.bits.proofs.fields.bits_at.Reads as bits-at-reads
 use Rattle.reader.proofs.judge.refuse.Reads as refuse-reads
 use Rattle.record.proofs.legality.source_ok.Reads as source-ok-reads
 
--- src/judge.rt:97:9
 bits-at-requires : tie.Need-bits-at-requires
 bits-at-requires c κs = search needs
 
--- src/judge.rt:99:25
 bits-at-requires-2 : tie.Need-bits-at-requires-2
 bits-at-requires-2 c κs = search needs
 
--- src/judge.rt:99:9
 source-ok-requires : tie.Need-source-ok-requires
 source-ok-requires c κs = search needs
 
--- src/judge.rt:100:9
 refuse-requires : tie.Need-refuse-requires
 refuse-requires c κs = search needs
 
--- src/judge.rt:100:9
 returns : tie.Need-returns
 returns c =
     c .refuse .ensures
     ∙ all-of-0 _ _
     (legal-byte (c .before .before .source-ok .ensures) (c .before .before .before .before .bits-at .ensures .0) (c .before .before .before .bits-at2 .ensures .0) (not-true _ (c .before .if1 .taken)))
 
--- src/judge.rt:102:25
 bits-at-requires-3 : tie.Need-bits-at-requires-3
 bits-at-requires-3 c κs = search needs
 
--- src/judge.rt:102:9
 source-ok-requires-2 : tie.Need-source-ok-requires-2
 source-ok-requires-2 c κs = search needs
 
--- src/judge.rt:103:9
 refuse-requires-2 : tie.Need-refuse-requires-2
 refuse-requires-2 c κs = search needs
 
--- src/judge.rt:103:9
 returns-2 : tie.Need-returns-2
 returns-2 c =
     c .refuse2 .ensures
@@ -53,19 +44,15 @@ returns-2 c =
     (legal-byte (c .before .before .before .before .before .source-ok .ensures) (c .before .before .before .before .before .before .before .bits-at .ensures .0) (c .before .before .before .before .before .before .bits-at2 .ensures .0) (not-false _ (c .before .before .before .before .if1 .left)))
     (legal-byte (c .before .before .source-ok2 .ensures) (c .before .before .before .before .before .before .before .bits-at .ensures .0) (c .before .before .before .bits-at3 .ensures .0) (not-true _ (c .before .if2 .taken)))
 
--- src/judge.rt:105:25
 bits-at-requires-4 : tie.Need-bits-at-requires-4
 bits-at-requires-4 c κs = search needs
 
--- src/judge.rt:105:9
 source-ok-requires-3 : tie.Need-source-ok-requires-3
 source-ok-requires-3 c κs = search needs
 
--- src/judge.rt:106:9
 refuse-requires-3 : tie.Need-refuse-requires-3
 refuse-requires-3 c κs = search needs
 
--- src/judge.rt:106:9
 returns-3 : tie.Need-returns-3
 returns-3 c =
     c .refuse3 .ensures
@@ -74,19 +61,15 @@ returns-3 c =
     (legal-byte (c .before .before .before .before .before .source-ok2 .ensures) (c .before .before .before .before .before .before .before .before .before .before .bits-at .ensures .0) (c .before .before .before .before .before .before .bits-at3 .ensures .0) (not-false _ (c .before .before .before .before .if2 .left)))
     (legal-byte (c .before .before .source-ok3 .ensures) (c .before .before .before .before .before .before .before .before .before .before .bits-at .ensures .0) (c .before .before .before .bits-at4 .ensures .0) (not-true _ (c .before .if3 .taken)))
 
--- src/judge.rt:108:25
 bits-at-requires-5 : tie.Need-bits-at-requires-5
 bits-at-requires-5 c κs = search needs
 
--- src/judge.rt:108:9
 source-ok-requires-4 : tie.Need-source-ok-requires-4
 source-ok-requires-4 c κs = search needs
 
--- src/judge.rt:109:9
 refuse-requires-4 : tie.Need-refuse-requires-4
 refuse-requires-4 c κs = search needs
 
--- src/judge.rt:109:9
 returns-4 : tie.Need-returns-4
 returns-4 c =
     c .refuse4 .ensures
@@ -96,7 +79,6 @@ returns-4 c =
     (legal-byte (c .before .before .before .before .before .source-ok3 .ensures) (c .before .before .before .before .before .before .before .before .before .before .before .before .before .bits-at .ensures .0) (c .before .before .before .before .before .before .bits-at4 .ensures .0) (not-false _ (c .before .before .before .before .if3 .left)))
     (legal-byte (c .before .before .source-ok4 .ensures) (c .before .before .before .before .before .before .before .before .before .before .before .before .before .bits-at .ensures .0) (c .before .before .before .bits-at5 .ensures .0) (not-true _ (c .before .if4 .taken)))
 
--- src/judge.rt:94:1
 returns-5 : tie.Need-returns-5
 returns-5 c =
     all-legal _ _

@@ -11,34 +11,27 @@ use Rattle.lookup.proofs.line_of.Reads as line-of-reads
 use Rattle.reader.proofs.judge.judge_fields.Reads as judge-fields-reads
 use Rattle.reader.proofs.judge.refuse.Reads as refuse-reads
 
--- src/judge.rt:147:9
 line-of-requires : tie.Need-line-of-requires
 line-of-requires c κs = search needs
 
--- src/judge.rt:149:9
 judge-fields-requires : tie.Need-judge-fields-requires
 judge-fields-requires c κs = search needs
 
--- src/judge.rt:149:9
 returns : tie.Need-returns
 returns c = search needs
 
--- src/judge.rt:152:9
 refuse-requires : tie.Need-refuse-requires
 refuse-requires c κs = search needs
 
--- src/judge.rt:152:9
 returns-2 : tie.Need-returns-2
 returns-2 c =
     let w = c .before .before .before .before .before .before .before .args .w in
     let hw : w < 2 ^ 64 = search needs in
     subst (Judges w) (sym (c .refuse .ensures)) (no-row-there w hw (c .before .before .before .before .before .before .line-of .result) (c .before .before .before .before .before .before .line-of .ensures) (c .before .if2 .taken))
 
--- src/judge.rt:154:5
 refuse-requires-2 : tie.Need-refuse-requires-2
 refuse-requires-2 c κs = search needs
 
--- src/judge.rt:144:1
 returns-3 : tie.Need-returns-3
 returns-3 c =
     let w = c .before .before .before .before .before .before .before .args .w in

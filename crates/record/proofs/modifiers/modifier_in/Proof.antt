@@ -11,24 +11,19 @@ use Rattle.record.proofs.modifiers.modifier_in.Reads as reads
 use Rattle.record.proofs.modifiers.modifier_in.Lts as lts
 use Rattle.bits.proofs.fields.bits_at.Reads as bits-at-reads
 
--- src/modifiers.rt:15:37
 mul-bits-at : tie.Need-mul-bits-at
 mul-bits-at c = search needs
 
--- src/modifiers.rt:15:21
 bits-at-requires : tie.Need-bits-at-requires
 bits-at-requires c κs = search needs
 
--- src/modifiers.rt:15:5
 bits-at-requires-2 : tie.Need-bits-at-requires-2
 bits-at-requires-2 c κs = search needs
 
--- src/modifiers.rt:15:5
 cast-result : tie.Need-cast-result
 cast-result c =
     record { fits = lt-of-lt-of-le (c .bits-at2 .ensures .1) (pow-mono {j = 8} (omega (arith, c .before .bits-at .ensures .1))) }
 
--- src/modifiers.rt:11:1
 returns : tie.Need-returns
 returns c = c .bits-at2 .ensures .0 ∙ ap (λ (n : ℕ). bits (c .before .before .args .w) (c .before .before .args .low) n) (c .before .bits-at .ensures .0)
 

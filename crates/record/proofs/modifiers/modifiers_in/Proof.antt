@@ -10,71 +10,54 @@ use Rattle.record.proofs.modifiers.modifiers_in.Lts as lts
 use Rattle.record.proofs.instruction.Modifiers.of.Reads as of-reads
 use Rattle.record.proofs.modifiers.modifier_in.Reads as modifier-in-reads
 
--- src/modifiers.rt:23:9
 of-requires : tie.Need-of-requires
 of-requires c κs = search needs
 
--- src/modifiers.rt:23:9
 returns : tie.Need-returns
 returns c = c .of .ensures ∙ ap modifiers-of (none-there (c .before .before .args .w) (c .before .if1 .taken))
 
--- src/modifiers.rt:26:13
 modifier-in-requires : tie.Need-modifier-in-requires
 modifier-in-requires c κs = search needs
 
--- src/modifiers.rt:27:14
 modifier-in-requires-2 : tie.Need-modifier-in-requires-2
 modifier-in-requires-2 c κs = search needs
 
--- src/modifiers.rt:28:14
 modifier-in-requires-3 : tie.Need-modifier-in-requires-3
 modifier-in-requires-3 c κs = search needs
 
--- src/modifiers.rt:29:14
 modifier-in-requires-4 : tie.Need-modifier-in-requires-4
 modifier-in-requires-4 c κs = search needs
 
--- src/modifiers.rt:30:14
 modifier-in-requires-5 : tie.Need-modifier-in-requires-5
 modifier-in-requires-5 c κs = search needs
 
--- src/modifiers.rt:31:14
 modifier-in-requires-6 : tie.Need-modifier-in-requires-6
 modifier-in-requires-6 c κs = search needs
 
--- src/modifiers.rt:32:14
 modifier-in-requires-7 : tie.Need-modifier-in-requires-7
 modifier-in-requires-7 c κs = search needs
 
--- src/modifiers.rt:33:14
 modifier-in-requires-8 : tie.Need-modifier-in-requires-8
 modifier-in-requires-8 c κs = search needs
 
--- src/modifiers.rt:34:14
 modifier-in-requires-9 : tie.Need-modifier-in-requires-9
 modifier-in-requires-9 c κs = search needs
 
--- src/modifiers.rt:35:14
 modifier-in-requires-10 : tie.Need-modifier-in-requires-10
 modifier-in-requires-10 c κs = search needs
 
--- src/modifiers.rt:36:14
 modifier-in-requires-11 : tie.Need-modifier-in-requires-11
 modifier-in-requires-11 c κs = search needs
 
--- src/modifiers.rt:37:14
 modifier-in-requires-12 : tie.Need-modifier-in-requires-12
 modifier-in-requires-12 c κs = search needs
 
--- src/modifiers.rt:38:14
 modifier-in-requires-13 : tie.Need-modifier-in-requires-13
 modifier-in-requires-13 c κs = search needs
 
--- src/modifiers.rt:39:14
 modifier-in-requires-14 : tie.Need-modifier-in-requires-14
 modifier-in-requires-14 c κs = search needs
 
--- src/modifiers.rt:19:1
 returns-2 : tie.Need-returns-2
 unfolding modifiers-in
 returns-2 c =

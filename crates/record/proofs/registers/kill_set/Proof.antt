@@ -9,11 +9,9 @@ use Rattle.record.proofs.registers.kill_set.Reads as reads
 use Rattle.record.proofs.registers.kill_set.Lts as lts
 use Rattle.bits.proofs.bytes.wide.Reads as wide-reads
 
--- src/registers.rt:69:13
 wide-requires : tie.Need-wide-requires
 wide-requires c κs = search needs
 
--- src/registers.rt:69:5
 mul-result : tie.Need-mul-result
 mul-result c =
     let a = c .before .args in
@@ -24,7 +22,6 @@ mul-result c =
     at-most x (suc zero) h = omega arith
     at-most x (suc (suc y)) h = absurd (omega arith)
 
--- src/registers.rt:65:1
 returns : tie.Need-returns
 returns c = rw (c .wide .ensures .0)
 

@@ -12,23 +12,18 @@ use Rattle.bits.proofs.bytes.wide.Reads as wide-reads
 use Rattle.bits.proofs.fields.bits_at.Reads as bits-at-reads
 use Rattle.record.proofs.registers.counts.Reads as counts-reads
 
--- src/registers.rt:46:13
 counts-requires : tie.Need-counts-requires
 counts-requires c κs = search needs
 
--- src/registers.rt:46:31
 wide-requires : tie.Need-wide-requires
 wide-requires c κs = search needs
 
--- src/registers.rt:46:31
 mul-bits-at : tie.Need-mul-bits-at
 mul-bits-at c = search needs
 
--- src/registers.rt:46:5
 bits-at-requires : tie.Need-bits-at-requires
 bits-at-requires c κs = search needs
 
--- src/registers.rt:43:1
 returns : tie.Need-returns
 returns c =
     let k = c .before .before .before .args .row in

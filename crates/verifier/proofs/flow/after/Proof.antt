@@ -9,15 +9,12 @@ use Rattle.verifier.proofs.flow.after.Lts as lts
 use Rattle.bits.proofs.sets.missing.Reads as missing-reads
 use Rattle.record.proofs.instruction.Instruction.defines.Reads as defines-reads
 
--- src/flow.rt:29:5
 missing-requires : tie.Need-missing-requires
 missing-requires c κs = search needs
 
--- src/flow.rt:29:28
 defines-requires : tie.Need-defines-requires
 defines-requires c κs = search needs
 
--- src/flow.rt:25:1
 returns : tie.Need-returns
 unfolding after
 returns c = ap₂ union (c .before .missing .ensures ∙ ap (minus (c .before .before .args .held)) (c .before .before .pre)) (c .defines .ensures)

@@ -1,9 +1,9 @@
-use mathlib.Core.Path.{ap, ap₂, _∙_}
+use mathlib.Core.Path.{_≡_, ap, ap₂, _∙_}
 use Prim.Native.Nat.{ℕ}
 use denote.Ref.{now}
-use Rattle.bits.specs.Outcomes.{_then_}
+use Rattle.record.specs.Registers.{reads as reads-of}
 use Rattle.verifier.specs.Program.{successors, after, annotation-at}
-use Rattle.verifier.specs.Verdict.{Judgement, each, none-missing, judge-successor, judge-flow}
+use Rattle.verifier.specs.Verdict.{verdict-outcome, each, none-missing, judge-successor, judge-flow}
 use Rattle.verifier.proofs.PassLaws.{followed, halted}
 use borrow.Author.Needs.{needs}
 use Rattle.verifier.proofs.flow.judge_flow.Statement.{statement}
@@ -15,50 +15,49 @@ use Rattle.verifier.proofs.flow.annotation_at.Reads as annotation-at-re
 use Rattle.verifier.proofs.flow.judge_successors.Reads as judge-successors-reads
 use Rattle.verifier.proofs.verdict.none_missing.Reads as none-missing-reads
 
--- src/flow.rt:106:9
+-- what is read and not named
+abbrev Missed : Type 0
+Missed = lts.After-none-missing (annotation-at-reads.Asked, annotation-at-reads.Learnt, uses-reads.Asked, uses-reads.Learnt, none-missing-reads.Asked, none-missing-reads.Learnt, judge-successors-reads.Asked, judge-successors-reads.Learnt) reads.Pre reads.Post
+
+missed : (c : Missed) → let a = c .before .before .before .before .args in
+    verdict-outcome (c .none-missing .result) ≡ none-missing 20 (a .i) (reads-of (a .x)) (annotation-at (now (a .annotations)) (a .i))
+missed c =
+    let a = c .before .before .before .before .args in
+    c .none-missing .ensures ∙ ap₂ (λ (x y : ℕ). none-missing 20 (a .i) x y) (c .before .uses .ensures .0) (c .before .before .annotation-at .ensures)
+
 annotation-at-requires : tie.Need-annotation-at-requires
 annotation-at-requires c κs = search needs
 
--- src/flow.rt:107:9
 uses-requires : tie.Need-uses-requires
 uses-requires c κs = search needs
 
--- src/flow.rt:108:9
 none-missing-requires : tie.Need-none-missing-requires
 none-missing-requires c κs = search needs
 
--- src/flow.rt:111:17
 enum-told : tie.Need-enum-told
 enum-told c = search needs
 
--- src/flow.rt:112:13
 judge-successors-requires : tie.Need-judge-successors-requires
 judge-successors-requires c κs = search needs
 
--- src/flow.rt:114:26
 enum-known-missed : tie.Need-enum-known-missed
 enum-known-missed c = search needs
 
--- src/flow.rt:102:1
 returns : tie.Need-returns
 unfolding judge-flow
 returns c =
     let a = c .before .before .before .before .before .before .before .args in
     let m = annotation-at (now (a .annotations)) in
     let before = c .before .before .before .before .before .annotation-at .ensures in
-    let v = c .before .before .before .none-missing .ensures ∙ ap₂ (λ (x y : ℕ). none-missing 20 (a .i) x y) (c .before .before .before .before .uses .ensures .0) before in
-    followed (c .before .enum-told .given .1) v
+    followed (c .before .enum-told .given .1) (missed (c .before .before .before))
     (c .judge-successors .ensures ∙ ap (λ (k : ℕ). each (judge-successor (a .n) m (a .i) (after (a .x) k)) (successors (a .x) (a .i))) before)
 
--- src/flow.rt:102:1
 returns-2 : tie.Need-returns-2
 unfolding judge-flow
 returns-2 c =
     let a = c .before .before .before .before .before .before .before .args in
     let m = annotation-at (now (a .annotations)) in
-    let before = c .before .before .before .before .before .annotation-at .ensures in
-    let v = c .before .before .before .none-missing .ensures ∙ ap₂ (λ (x y : ℕ). none-missing 20 (a .i) x y) (c .before .before .before .before .uses .ensures .0) before in
-    halted (each (judge-successor (a .n) m (a .i) (after (a .x) (m (a .i)))) (successors (a .x) (a .i))) (c .before .missed .given .1) v
+    halted (each (judge-successor (a .n) m (a .i) (after (a .x) (m (a .i)))) (successors (a .x) (a .i))) (c .before .missed .given .1) (missed (c .before .before .before))
 
 pub judge-flow-spec : {M : Type 1} → statement M
 judge-flow-spec =

@@ -21,73 +21,58 @@ Inv-loop words annotations n i₀ i = (i ≤ n) × Passed words annotations n i
 abbrev μ-loop : tie.MeasureT-loop
 μ-loop words annotations n i₀ i = n - i
 
--- src/program.rt:60:5
 loop-holds : tie.Need-loop-holds Inv-loop μ-loop
 loop-holds c = let a = c .before .before .args in (omega arith, starts (now (a .words)) (now (a .annotations)) (a .n))
 
--- src/program.rt:61:13
 reading-at-requires : tie.Need-reading-at-requires Inv-loop μ-loop
 reading-at-requires c κs = search needs
 
--- src/program.rt:63:27
 enum-known-r : tie.Need-enum-known-r Inv-loop μ-loop
 enum-known-r c = search needs
 
--- src/program.rt:64:21
 judge-flow-requires : tie.Need-judge-flow-requires Inv-loop μ-loop
 judge-flow-requires c κs = search needs
 
 enum-told : tie.Need-enum-told Inv-loop μ-loop
 enum-told c = search needs
 
--- src/program.rt:67:38
 enum-known-v : tie.Need-enum-known-v Inv-loop μ-loop
 enum-known-v c = search needs
 
--- src/program.rt:68:58
 add-unreadable-from : tie.Need-add-unreadable-from Inv-loop μ-loop
 add-unreadable-from c = search needs
 
--- src/program.rt:68:25
 unreadable-from-requires : tie.Need-unreadable-from-requires Inv-loop μ-loop
 unreadable-from-requires c κs = let a = c .before .before .before .before .before .before .before .before .before .before .before .before .args in (c .before .before .before .before .before .before .before .before .before .before .before .before .pre .0, search needs, read-on (now (a .words)) (c .before .before .before .before .before .before .before .before .before .loop .i) (c .before .before .before .before .before .before .before .before .before .loop .inv .1 .reads) (ap reading (sym (c .before .before .before .before .before .r .given .1)) ∙ c .before .before .before .before .before .before .before .reading-at .ensures))
 
--- src/program.rt:68:25
 returns : tie.Need-returns Inv-loop μ-loop
 returns c =
     let a = c .before .before .before .before .before .before .before .before .before .before .before .before .before .args in
     fails (now (a .words)) (now (a .annotations)) (a .n) (c .before .before .before .before .before .before .before .before .before .before .loop .inv .1) (ap reading (sym (c .before .before .before .before .before .before .r .given .1)) ∙ c .before .before .before .before .before .before .before .before .reading-at .ensures) (c .before .before .before .before .before .before .before .before .before .loop-test .taken) (c .before .before .before .before .judge-flow .ensures)
     (ap verdict-outcome (c .before .before .v .given .1)) (c .unreadable-from .ensures)
 
--- src/program.rt:72:30
 enum-known-r-2 : tie.Need-enum-known-r-2 Inv-loop μ-loop
 enum-known-r-2 c = search needs
 
--- src/program.rt:73:17
 refused-requires : tie.Need-refused-requires Inv-loop μ-loop
 refused-requires c κs = search needs
 
--- src/program.rt:73:17
 returns-2 : tie.Need-returns-2 Inv-loop μ-loop
 returns-2 c =
     let a = c .before .before .before .before .before .before .before .before .before .args in
     unread (now (a .words)) (c .before .before .before .before .before .before .loop .i) (a .n) (c .before .before .before .before .before .before .loop .inv .1 .reads) _ (c .before .before .before .before .before .loop-test .taken) (ap reading (sym (c .before .before .r2 .given .1)) ∙ c .before .before .before .before .reading-at .ensures) (c .refused .ensures)
 
--- src/program.rt:76:9
 add-i : tie.Need-add-i Inv-loop μ-loop
 add-i c = search needs
 
--- src/program.rt:60:5
 loop-less : tie.Need-loop-less Inv-loop μ-loop
 loop-less c = search needs
 
--- src/program.rt:60:5
 loop-again : tie.Need-loop-again Inv-loop μ-loop
 loop-again c =
     let a = c .before .before .before .before .before .before .before .before .before .before .before .args in
     (search needs, turns (now (a .words)) (now (a .annotations)) (a .n) (c .before .before .before .before .before .before .before .before .loop .inv .1) (ap reading (sym (c .before .before .before .before .r .given .1)) ∙ c .before .before .before .before .before .before .reading-at .ensures) (c .before .before .judge-flow .ensures) (ap verdict-outcome (c .enum-told .given .1)))
 
--- src/program.rt:55:1
 returns-3 : tie.Need-returns-3 Inv-loop μ-loop
 returns-3 c =
     let a = c .before .before .before .before .args in

@@ -13,38 +13,30 @@ use Rattle.verifier.proofs.program.judge_instructions.Reads as judge-in
 use Rattle.verifier.proofs.program.unreadable_from.Reads as unreadable-from-reads
 use Rattle.verifier.proofs.verdict.none_missing.Reads as none-missing-reads
 
--- src/program.rt:91:44
 annotation-at-requires : tie.Need-annotation-at-requires
 annotation-at-requires c κs = search needs
 
--- src/program.rt:91:9
 none-missing-requires : tie.Need-none-missing-requires
 none-missing-requires c κs = search needs
 
--- src/program.rt:93:30
 enum-told : tie.Need-enum-told
 enum-told c = search needs
 
--- src/program.rt:93:30
 judge-instructions-requires : tie.Need-judge-instructions-requires
 judge-instructions-requires c κs = search needs
 
--- src/program.rt:94:26
 enum-known-v : tie.Need-enum-known-v
 enum-known-v c = search needs
 
--- src/program.rt:94:32
 unreadable-from-requires : tie.Need-unreadable-from-requires
 unfolding first
 unreadable-from-requires c κs = (c .before .before .before .before .before .before .before .pre .0, search needs, refl)
 
--- src/program.rt:82:1
 returns : tie.Need-returns
 returns c =
     let a = c .before .before .before .before .before .before .before .args in
     entered (now (a .words)) (now (a .annotations)) (a .n) (a .entry) (c .before .before .before .none-missing .ensures ∙ ap (λ (x : ℕ). none-missing 23 0 x (c .before .before .before .before .before .before .before .args .entry)) (c .before .before .before .before .annotation-at .ensures)) (ap verdict-outcome (c .before .enum-told .given .1)) (c .judge-instructions .ensures)
 
--- src/program.rt:82:1
 returns-2 : tie.Need-returns-2
 returns-2 c =
     let a = c .before .before .before .before .before .before .before .before .args in

@@ -20,47 +20,38 @@ Inv-loop words n from f i₀ i = (i ≤ n) × (first (judge-word words) i ≡ pa
 abbrev μ-loop : tie.MeasureT-loop
 μ-loop words n from f i₀ i = n - i
 
--- src/program.rt:41:5
 loop-holds : tie.Need-loop-holds Inv-loop μ-loop
 loop-holds c = search needs
 
--- src/program.rt:42:13
 reading-at-requires : tie.Need-reading-at-requires Inv-loop μ-loop
 reading-at-requires c κs = search needs
 
 enum-told : tie.Need-enum-told Inv-loop μ-loop
 enum-told c = search needs
 
--- src/program.rt:45:30
 enum-known-r : tie.Need-enum-known-r Inv-loop μ-loop
 enum-known-r c = search needs
 
--- src/program.rt:46:17
 refused-requires : tie.Need-refused-requires Inv-loop μ-loop
 refused-requires c κs = search needs
 
--- src/program.rt:46:17
 returns : tie.Need-returns Inv-loop μ-loop
 returns c =
     let a = c .before .before .before .before .before .before .before .before .args in
     unread (now (a .words)) (c .before .before .before .before .before .before .loop .i) (a .n) (c .before .before .before .before .before .before .loop .inv .1) _ (c .before .before .before .before .before .loop-test .taken)
     (ap reading (sym (c .before .before .r .given .1)) ∙ c .before .before .before .before .reading-at .ensures) (c .refused .ensures)
 
--- src/program.rt:49:9
 add-i : tie.Need-add-i Inv-loop μ-loop
 add-i c = search needs
 
--- src/program.rt:41:5
 loop-less : tie.Need-loop-less Inv-loop μ-loop
 loop-less c = search needs
 
--- src/program.rt:41:5
 loop-again : tie.Need-loop-again Inv-loop μ-loop
 loop-again c =
     let a = c .before .before .before .before .before .before .args in
     (search needs, read-on (now (a .words)) (c .before .before .before .before .loop .i) (c .before .before .before .before .loop .inv .1) (ap reading (sym (c .enum-told .given .1)) ∙ c .before .before .reading-at .ensures))
 
--- src/program.rt:36:1
 returns-2 : tie.Need-returns-2 Inv-loop μ-loop
 returns-2 c =
     let a = c .before .before .before .args in

@@ -4,7 +4,7 @@ use Rattle.record.proofs.instruction.Instruction.branches.Statement.{st
 use Rattle.record.proofs.instruction.Instruction.branches.Tie as tie
 
 returns : tie.Need-returns
-returns c = sym (ranged (c .before .args .self .row) .offset)
+returns c = sym (ranged _ .offset)
 
 pub branches-spec : {M : Type 1} → statement M
 branches-spec = tie.close (tie.spec returns)

@@ -20,56 +20,43 @@ use Rattle.bits.proofs.fields.bits_at.Reads as bits-at-reads
 use Rattle.record.proofs.modifiers.modifiers_in.Reads as modifiers-in-reads
 use Rattle.rows.proofs.table.row_at.Reads as row-at-reads
 
--- src/fresh.rt:19:13
 returns : tie.Need-returns
 unfolding fresh _then_
 returns c = rw (le-ltb _ _ (c .if1 .taken))
 
--- src/fresh.rt:24:17
 row-at-requires : tie.Need-row-at-requires
 row-at-requires c κs = search needs
 
--- src/fresh.rt:25:38
 array-read-modifiers-in : tie.Need-array-read-modifiers-in
 array-read-modifiers-in c = search needs
 
--- src/fresh.rt:25:44
 array-read-modifiers-in-2 : tie.Need-array-read-modifiers-in-2
 array-read-modifiers-in-2 c = search needs
 
--- src/fresh.rt:25:44
 mul-modifiers-in : tie.Need-mul-modifiers-in
 mul-modifiers-in c = rw (c .row-at .ensures) (record { fits = default-lt (c .before .before .args .row) (c .before .if1 .left) })
 
--- src/fresh.rt:25:13
 modifiers-in-requires : tie.Need-modifiers-in-requires
 modifiers-in-requires c κs = search needs
 
--- src/fresh.rt:26:42
 array-read-bits-at : tie.Need-array-read-bits-at
 array-read-bits-at c = search needs
 
--- src/fresh.rt:26:34
 bits-at-requires : tie.Need-bits-at-requires
 bits-at-requires c κs = search needs
 
--- src/fresh.rt:26:30
 sub-half-mask : tie.Need-sub-half-mask
 sub-half-mask c = search needs
 
--- src/fresh.rt:26:25
 mul-half-mask : tie.Need-mul-half-mask
 mul-half-mask c = search needs
 
--- src/fresh.rt:28:18
 cast-t18 : tie.Need-cast-t18
 cast-t18 c = search needs
 
--- src/fresh.rt:32:24
 cast-t19 : tie.Need-cast-t19
 cast-t19 c = search needs
 
--- src/fresh.rt:15:5
 returns-2 : tie.Need-returns-2
 unfolding fresh _then_
 returns-2 c =

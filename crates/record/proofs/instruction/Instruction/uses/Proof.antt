@@ -13,35 +13,27 @@ use Rattle.record.proofs.registers.kill_set.Reads as kill-set-reads
 use Rattle.record.proofs.registers.read_set.Reads as read-set-reads
 use Rattle.record.proofs.registers.source_count.Reads as source-count-reads
 
--- src/registers.rt:77:13
 source-count-requires : tie.Need-source-count-requires
 source-count-requires c κs = search needs
 
--- src/registers.rt:79:13
 read-set-requires : tie.Need-read-set-requires
 read-set-requires c κs = search needs
 
--- src/registers.rt:80:13
 read-set-requires-2 : tie.Need-read-set-requires-2
 read-set-requires-2 c κs = search needs
 
--- src/registers.rt:81:13
 read-set-requires-3 : tie.Need-read-set-requires-3
 read-set-requires-3 c κs = search needs
 
--- src/registers.rt:83:21
 kill-set-requires : tie.Need-kill-set-requires
 kill-set-requires c κs = search needs
 
--- src/registers.rt:83:42
 kill-set-requires-2 : tie.Need-kill-set-requires-2
 kill-set-requires-2 c κs = search needs
 
--- src/registers.rt:83:63
 kill-set-requires-3 : tie.Need-kill-set-requires-3
 kill-set-requires-3 c κs = search needs
 
--- src/registers.rt:85:13
 returns : tie.Need-returns
 unfolding reads kills
 returns c =
@@ -55,15 +47,12 @@ returns c =
           (kill-source i 2 _ (omega arith) e (c .before .before .before .before .read-set3 .ensures) (c .before .kill-set3 .ensures)),
     )
 
--- src/registers.rt:87:13
 read-set-requires-4 : tie.Need-read-set-requires-4
 read-set-requires-4 c κs = search needs
 
--- src/registers.rt:90:28
 kill-set-requires-4 : tie.Need-kill-set-requires-4
 kill-set-requires-4 c κs = search needs
 
--- src/registers.rt:74:5
 returns-2 : tie.Need-returns-2
 unfolding reads kills
 returns-2 c =

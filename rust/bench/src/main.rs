@@ -1,0 +1,210 @@
+//! Times the library against the reference on the same inputs, in turns, and prints a table.
+//!
+//! The buffers hold the inputs before the clock starts; the form that a word is read into is
+//! not cleared between words. An argument names the lister, which is timed as a whole process.
+
+use inputs::{Program, Rng, Shape, encode, instruction, refused_word, with_word};
+use reference::{Instruction, ROW_COUNT, ROWS, Verdict};
+use std::fs::File;
+use std::hint::black_box;
+use std::path::Path;
+use std::process::{Command, ExitCode};
+use std::time::{Duration, Instant};
+
+/// Instructions, or words, that one pass goes through: short, so that other processes
+/// disturb few passes.
+const PASS: usize = 8192;
+/// Timings of each side; the median counts.
+const REPEATS: usize = 501;
+/// Runs of the lister.
+const RUNS: usize = 101;
+
+/// Accepted, refused for a read in the last instruction, refused for the last word.
+#[derive(Clone, Copy)]
+enum Outcome {
+    Accepted,
+    LastRead,
+    LastWord,
+}
+
+fn main() -> ExitCode {
+    println!("{:<40}{:>12}{:>12}{:>9}", "ns an instruction (median)", "Rattle", "Rust", "ratio");
+    let mut agreed = true;
+    for (name, outcome) in [
+        ("accepted", Outcome::Accepted),
+        ("refused, 20 at the last", Outcome::LastRead),
+        ("refused, 6 at the last", Outcome::LastWord),
+    ] {
+        for count in [16, 256, 2048] {
+            agreed &= time_check(&format!("check, {name}, n = {count}"), &parcels(count, outcome));
+        }
+    }
+    agreed &= time_read("read, legal words", &legal_words());
+    agreed &= time_read("read, refused words", &refused_words());
+    if !agreed {
+        return ExitCode::FAILURE;
+    }
+    println!("Both are release builds on the same inputs, timed in turns; no buffer is cleared between calls.");
+    match std::env::args_os().nth(1) {
+        Some(lister) if Path::new(&lister).is_file() => time_lister(Path::new(&lister)),
+        Some(_) => {
+            println!("lister: not built");
+            ExitCode::FAILURE
+        }
+        None => ExitCode::SUCCESS,
+    }
+}
+
+/// Parcels with so many instructions, together one pass.
+fn parcels(count: usize, outcome: Outcome) -> Vec<Vec<u8>> {
+    let mut rng = Rng::new(count as u64);
+    (0..PASS / count).map(|_| parcel(&mut rng, count, outcome)).collect()
+}
+
+fn parcel(rng: &mut Rng, count: usize, outcome: Outcome) -> Vec<u8> {
+    let mut program = Program::safe(rng, Shape { count, branches: 10, ends: 0, registers: 32 });
+    let last = count - 1;
+    match outcome {
+        Outcome::Accepted => program.parcel(&program.exact()),
+        Outcome::LastRead => {
+            program.instructions[last] = last_read();
+            let mut notes = program.exact();
+            notes[last] &= !program.reads(last);
+            program.parcel(&notes)
+        }
+        Outcome::LastWord => {
+            let bytes = program.parcel(&program.exact());
+            with_word(&bytes, last, refused_word(rng, 6).0)
+        }
+    }
+}
+
+/// MOV.i32 r1, r2 with `end`.
+fn last_read() -> Instruction {
+    let row = ROWS.iter().position(|row| row.name == "MOV.i32").unwrap_or(0) as u8;
+    Instruction { row, flow: 15, register: 1, half_mask: 3, sources: [2, 0, 0, 0], ..Instruction::default() }
+}
+
+fn legal_words() -> Vec<[u8; 8]> {
+    let mut rng = Rng::new(1);
+    let word = |k| encode(&instruction(&mut rng, (k * 31 % ROW_COUNT) as u8)).to_le_bytes();
+    (0..PASS).map(word).collect()
+}
+
+fn refused_words() -> Vec<[u8; 8]> {
+    let mut rng = Rng::new(2);
+    (0..PASS).map(|k| refused_word(&mut rng, 2 + (k % 6) as u8).0.to_le_bytes()).collect()
+}
+
+/// The whole check on both sides; whether they agree.
+fn time_check(name: &str, parcels: &[Vec<u8>]) -> bool {
+    let agree = parcels.iter().all(|bytes| match (vsp::check(bytes), reference::check(bytes)) {
+        (vsp::Verdict::Accepted, verdict) => verdict == Verdict::Accepted,
+        (vsp::Verdict::Refused { number, .. }, Verdict::Refused { refusal, .. }) => number == refusal.number(),
+        _ => false,
+    });
+    let rattle = || {
+        for bytes in parcels {
+            black_box(vsp::raw::check(black_box(bytes)));
+        }
+    };
+    let rust = || {
+        for bytes in parcels {
+            black_box(reference::check(black_box(bytes)));
+        }
+    };
+    report(name, agree, rattle, rust)
+}
+
+/// The word reader on both sides; whether they agree.
+fn time_read(name: &str, words: &[[u8; 8]]) -> bool {
+    let agree = words.iter().all(|word| match (vsp::read(word), reference::read(word)) {
+        (Ok(form), Ok(instruction)) => form.row == instruction.row && form.modifiers == instruction.modifiers,
+        (Err(refusal), Err(other)) => refusal.number == other.number(),
+        _ => false,
+    });
+    let rattle = || {
+        let mut form = [0; vsp::FORM];
+        for word in words {
+            black_box(vsp::raw::read(black_box(word), black_box(&mut form)));
+        }
+    };
+    let rust = || {
+        for word in words {
+            let _ = black_box(reference::read(black_box(word)));
+        }
+    };
+    report(name, agree, rattle, rust)
+}
+
+/// Times both in turns and prints a line.
+fn report(name: &str, agree: bool, rattle: impl Fn(), rust: impl Fn()) -> bool {
+    if !agree {
+        println!("{name:<40}the two sides differ");
+        return false;
+    }
+    let (mut first, mut second) = (Vec::new(), Vec::new());
+    for _ in 0..REPEATS {
+        first.push(time(&rattle));
+        second.push(time(&rust));
+    }
+    let (rattle, rust) = (nanoseconds(first), nanoseconds(second));
+    println!("{name:<40}{rattle:>12.2}{rust:>12.2}{:>9.2}", rattle / rust);
+    true
+}
+
+fn time(pass: impl Fn()) -> Duration {
+    let start = Instant::now();
+    pass();
+    start.elapsed()
+}
+
+/// The median, for one instruction.
+fn nanoseconds(times: Vec<Duration>) -> f64 {
+    median(times).as_nanos() as f64 / PASS as f64
+}
+
+fn median(mut times: Vec<Duration>) -> Duration {
+    times.sort();
+    times[times.len() / 2]
+}
+
+/// The lister's whole run on an accepted parcel of 2048 instructions, from its start to
+/// its exit, with its output read through a pipe; and on empty input, for comparison.
+fn time_lister(lister: &Path) -> ExitCode {
+    let long = parcel(&mut Rng::new(3), 2048, Outcome::Accepted);
+    match (run_lister(lister, &long), run_lister(lister, &[])) {
+        (Ok((time, 2049)), Ok((empty, _))) => {
+            println!(
+                "lister, whole run, n = 2048: {:.0} us (on empty input {:.0} us)",
+                time.as_secs_f64() * 1e6,
+                empty.as_secs_f64() * 1e6
+            );
+            ExitCode::SUCCESS
+        }
+        (Ok((_, lines)), Ok(_)) => {
+            println!("lister: {lines} lines, not 2049");
+            ExitCode::FAILURE
+        }
+        (Err(error), _) | (_, Err(error)) => {
+            println!("lister: {error}");
+            ExitCode::FAILURE
+        }
+    }
+}
+
+/// The median time of a run, and how many lines it wrote.
+fn run_lister(lister: &Path, bytes: &[u8]) -> std::io::Result<(Duration, usize)> {
+    let input = std::env::current_exe()?.with_file_name("lister.input");
+    std::fs::write(&input, bytes)?;
+    let mut times = Vec::new();
+    let mut lines = 0;
+    for _ in 0..RUNS {
+        let file = File::open(&input)?;
+        let start = Instant::now();
+        let output = Command::new(lister).stdin(file).output()?;
+        times.push(start.elapsed());
+        lines = output.stdout.iter().filter(|byte| **byte == b'\n').count();
+    }
+    Ok((median(times), lines))
+}

@@ -1,0 +1,141 @@
+"""What the shell front says about parcels: which parcels to try it on, and what it must write on standard error.
+
+    front.py parcels FOLDER               writes NAME.vsp, and NAME.out, what the lister must write
+    front.py sentences PARCELS FOLDER     for each NAME.vsp in PARCELS writes FOLDER/NAME.err, the sentences
+
+Verdicts, places and entry sets are worked out from the paper (paper01.py)."""
+import os
+import sys
+from paper01 import check, listing, members, opening, parcel, row_number, word
+
+B = 0x7800000000000000  # NOP, end
+FIVE = parcel([0, 0, 0, 0, B], [[]] * 5, [])
+ONE = parcel([B], [[]], [])
+
+
+def unreadable(w):
+    return parcel([0, w, B], [[]] * 3, [3])
+
+
+parcels = {
+    # words of paper 01, "Checked examples", and more places of 6 and 7
+    'word-2': unreadable(0x0091C10000010002),
+    'word-3': unreadable(0x8000000000000000),
+    'word-4': unreadable(0x5891C10000000002),
+    'word-5': unreadable(0x0091010000000002),
+    'word-6-bit-32': unreadable(0x00F0C00600020100),
+    'word-6-bit-8': unreadable(word(row_number('FLUSH.f32'), fields={8: 3})),
+    'word-6-bit-37': unreadable(word(row_number('BRANCHZ'), fields={37: 5})),
+    'word-7-source-0': unreadable(0x0091C100000000E0),
+    'word-7-source-1': unreadable(word(row_number('FADD.f32'), sources=(1, 255))),
+    'word-7-source-3': unreadable(word(row_number('CSEL.f32'), sources=(0, 1, 2, 240))),
+    'word-7-first': parcel([0x0091C100000000E0], [[]], []),
+    # 12: too short, before all else
+    'short-1': b'V',
+    'short-15': ONE[:15],
+    'short-wrong-mark': b'VSQ',
+    # 12: the count, before the length
+    'count-0': parcel([], [], []),
+    'count-0-long': parcel([B], [[]], [], n=0),
+    'count-2049': parcel([0] * 2049, [[]] * 2049, []),
+    'count-65535': parcel([B], [[]], [], n=65535),
+    # 12: the length
+    'length-16': ONE[:16],
+    'length-31': ONE[:31],
+    'length-33': ONE + b'\0',
+    'length-95': FIVE[:95],
+    'length-97': FIVE + b'\0',
+    'length-65536': ONE + bytes(65536 - 32),
+    'length-65537': ONE + bytes(65537 - 32),
+    'length-100000': FIVE + bytes(100000 - 96),
+    # the other opening refusals, and their order
+    'mark-first': parcel([B], [[]], [], mark=b'vsp', version=2, zero=1, n=0),
+    'version-2': parcel([B], [[]], [], version=2, zero=1, n=0),
+    'version-256': parcel([B], [[]], [], version=256),
+    'byte-5': parcel([B], [[]], [], zero=255, n=0),
+    # entry sets
+    'entry-none': ONE,
+    'entry-one': parcel([B], [[]], [63]),
+    'entry-edges': parcel([B], [[]], [0, 7, 8, 31, 32, 63]),
+    'entry-rows': parcel([B], [[]], [0, 1, 2, 4, 5, 7, 60, 61, 62, 63]),
+    'entry-all': parcel([B], [[]], range(64)),
+    'entry-and-23': parcel([B], [[0, 5]], [0]),
+}
+
+
+def names(registers):
+    """The registers in order; three and more in a row by the first and the last."""
+    rows = []
+    for r in sorted(registers):
+        if rows and rows[-1][-1] == r - 1:
+            rows[-1].append(r)
+        else:
+            rows.append([r])
+    return ', '.join(f'r{row[0]} to r{row[-1]}' if len(row) > 2 else ', '.join(f'r{r}' for r in row) for row in rows)
+
+
+def claim(registers):
+    """What is said of the entry set."""
+    filled = names(registers)
+    if not registers:
+        return 'the parcel says that no register is filled before it starts.'
+    verb = 'is' if len(registers) == 1 else 'are'
+    return f'the parcel says that {filled} {verb} filled before it starts. That is its own claim; with --entry you say what the display really fills.'
+
+
+def about_size(data):
+    n = int.from_bytes(data[6:8], 'little')
+    if len(data) < 16:
+        return f'the parcel is too short: it has {len(data)} of the 16 bytes of a header'
+    if not 1 <= n <= 2048:
+        return f"the parcel's count of instructions is {n}, and it must be from 1 to 2048"
+    size = 'more than 65536' if len(data) > 65536 else len(data)
+    need = '1 instruction needs' if n == 1 else f'{n} instructions need'
+    return f"the parcel's length is wrong: it has {size} bytes, and {need} {16 + 16 * n}"
+
+
+def meaning(data, number, place, index, register):
+    word = f'the word at index {index}, {int.from_bytes(data[16 + 8 * index:24 + 8 * index], "little"):016X},'
+    return {
+        2: f'{word} is no instruction of the table',
+        3: f'{word} has a 1 in a bit that its instruction does not use',
+        4: f'{word} has a reserved flow',
+        5: f'{word} has a destination of which no half is written',
+        6: f'{word} has an illegal modifier, at bit {place}',
+        7: f'{word} has a reserved constant as source {place}',
+        10: 'this is no parcel: it does not begin with the letters VSP',
+        11: f'the parcel has version {int.from_bytes(data[3:5], "little")}, and this tool reads version 1',
+        12: about_size(data),
+        13: f'byte 5 of the parcel is {data[5] if len(data) > 5 else None}, and it must be 0',
+        20: f'instruction {index} reads register {register}, which its note does not name as filled',
+        21: f'instruction {index} can go on to a place outside the program',
+        22: f'instruction {index} can go on to an instruction whose note names register {register}, '
+            f'and by its own note instruction {index} does not leave that register filled',
+        23: f'the note of instruction 0 names register {register}, which the parcel does not say is filled before it starts',
+    }[number]
+
+
+def sentences(data):
+    lines = []
+    if opening(data) is None:
+        lines.append(claim(members(int.from_bytes(data[8:16], 'little'))))
+    verdict = check(data)
+    if verdict is not None:
+        lines.append(f'refused with {verdict[0]}: {meaning(data, *verdict)}.')
+    return ''.join(f'vsp: {line}\n' for line in lines)
+
+
+def write(folder, name, data):
+    with open(os.path.join(folder, name), 'wb') as f:
+        f.write(data)
+
+
+if sys.argv[1] == 'parcels':
+    for name, data in parcels.items():
+        write(sys.argv[2], name + '.vsp', data)
+        write(sys.argv[2], name + '.out', listing(data).encode())
+else:
+    for file in sorted(os.listdir(sys.argv[2])):
+        if file.endswith('.vsp'):
+            with open(os.path.join(sys.argv[2], file), 'rb') as f:
+                write(sys.argv[3], file[:-4] + '.err', sentences(f.read()).encode())
