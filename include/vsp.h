@@ -27,13 +27,15 @@
  *   10  the mark isn't VSP
  *   11  the version isn't 1
  *   12  cut off within the first 16 bytes; or the count (1 to 2048) or the length (16 bytes,
- *       and 16 for each instruction) is wrong
+ *       and 16 for each instruction) is wrong; from vsp_infer: the words aren't 8 bytes for
+ *       each of 1 to 2048 instructions, or the room for notes isn't as long as the words
  *   13  byte 5 isn't 0
  *   20  an instruction reads a register that its note doesn't name
  *   21  an instruction can go on to a place outside the program
  *   22  an instruction can go on to one whose note names a register that, by its own
  *       note, it doesn't leave held
  *   23  the first note names a register that the entry set doesn't have
+ *   24  with these words and this entry set no notes at all would be accepted
  *
  * The form, 32 bytes, of a decoded instruction:
  *    0       row, 0 to 76
@@ -91,13 +93,15 @@ enum {
 };
 
 /*
- * The parts of an answer; place, index and register mean something only where it isn't 0.
- * The last two are for vsp_check only.
+ * The parts of an answer; place, index and register mean something only where the number
+ * isn't 0, and the last two are for vsp_check and vsp_infer only.
  */
 #define VSP_NUMBER(answer) ((unsigned)((answer) & 0xFF))
 #define VSP_PLACE(answer) ((unsigned)((answer) >> 8 & 0xFF))
 #define VSP_INDEX(verdict) ((unsigned)((uint64_t)(verdict) >> 16 & 0xFFFF))
 #define VSP_REGISTER_OF(verdict) ((unsigned)((uint64_t)(verdict) >> 32 & 0xFF))
+/* For vsp_infer, where the number is 0. */
+#define VSP_SWEEPS(answer) ((unsigned)((uint64_t)(answer) >> 16 & 0xFFFF))
 
 /*
  * Opens a parcel, reads all its words and checks its notes. Writes nothing.
@@ -120,6 +124,32 @@ enum {
  * one that is branched to.
  */
 uint64_t vsp_check(const uint8_t *parcel, size_t length);
+
+/*
+ * Makes notes for words that come without any. Words and notes are as in a parcel, 8 bytes
+ * for each instruction, little-endian, so both have the same length. Uses some 120 KB of
+ * stack.
+ *
+ * The entry set, bit r for register r, is the caller's to know: the words don't say what the
+ * display fills before it starts the program, and notes for a set that it doesn't fill are
+ * worth nothing.
+ *
+ * Where it proposes notes it fills the buffer with them and gives 2^16 times the number of
+ * sweeps, so VSP_NUMBER of it is 0. Then vsp_check accepts the parcel of this entry set, these
+ * words and these notes. Each note names every register that the same note names in any notes
+ * that vsp_check would accept for these words and this entry set. Where every instruction lies
+ * on some way through the program, it names just the registers that are held whichever way the
+ * program comes to its instruction. A sweep narrows each note to what every instruction that
+ * can go on to its own leaves held; the last one, which changes no note, counts too, so the
+ * number of sweeps is never 0.
+ *
+ * Otherwise number + 2^8 place + 2^16 index + 2^32 register, and leaves the buffer as it was.
+ * The first refusal in this order: 12 for either length; 2 to 7 for the lowest word that isn't
+ * legal, with its index; 24, exactly where vsp_check would accept no notes at all. The index
+ * is 0 for 12 and 24, the register always 64.
+ */
+uint64_t vsp_infer(const uint8_t *words, size_t length, uint64_t entry, uint8_t *notes,
+                   size_t notes_length);
 
 /*
  * Reads a word of 8 little-endian bytes.

@@ -1,18 +1,20 @@
 #!/usr/bin/env python3
-"""Makes parcels from their sources: FILE.vsa becomes FILE.vsp beside it.
+"""Makes parcels from their sources: FILE.vsa becomes FILE.vsp beside it, and FILE.words too where the source asks for it.
 
     python3 samples/make.py                          makes all samples
     python3 samples/make.py FILE.vsa ..              makes these
-    python3 samples/make.py --check [FILE.vsa ..]    says which parcels differ from what their sources give, and writes nothing
+    python3 samples/make.py --check [FILE.vsa ..]    says which files differ from what their sources give, and writes nothing
     python3 samples/make.py --help                   shows this text
 
 Errors are told as FILE:LINE: and a sentence, of each line the first. Where there is one, nothing is written or compared, of no file.
-The exit status is 0 where all is well, 1 where a source is wrong, a parcel differs or a file can't be read or written, 2 for a wrong call.
+The exit status is 0 where all is well, 1 where a source is wrong, a made file differs or a file can't be read or written, 2 for a wrong call.
 
 A source is a text in UTF-8. It has a line for each instruction, 1 to 2048 of them, and at most one line with the entry set, the
-registers that the parcel says are filled before the program starts (without that line, none):
+registers that the parcel says are filled before the program starts (without that line, none). A line `words` asks for FILE.words as
+well: the words alone, from which ./vsp notes makes a parcel.
 
     entry r0 r1
+    words
     FADD.f32 r2, r0, u3       | r0 r1
 
 An instruction is its NAME, the destination (where the row has one), the sources, then any clauses, and after the bar the note: the
@@ -220,6 +222,15 @@ def entry_line(line, entries):
     return registers(line[len('entry'):])
 
 
+def words_line(line, asked):
+    """That the words alone are asked for too; `asked` says whether a line before does so."""
+    if asked:
+        raise Wrong('A line before this one asks for the words alone.')
+    if line != 'words':
+        raise Wrong('`words` has its line for itself.')
+    return True
+
+
 def instruction_line(line, index, count):
     """The word and the note."""
     if index == MOST:
@@ -230,8 +241,10 @@ def instruction_line(line, index, count):
     return instruction(code.strip(' '), index, count), registers(note)
 
 
-def is_entry(line):
-    return line.partition(' ')[0] == 'entry'
+def line_kind(line):
+    """What a line is about: the entry set, the words alone, or an instruction."""
+    first = line.partition(' ')[0]
+    return first if first in ('entry', 'words') else 'instruction'
 
 
 def lines_of(text):
@@ -241,15 +254,17 @@ def lines_of(text):
 
 
 def assemble(path, text):
-    """The parcel's bytes."""
+    """The bytes to make, by the ending of the file: the parcel, and the words alone where they are asked for."""
     lines = lines_of(text)
-    count = sum(not is_entry(line) for _, line in lines)
-    entries, index, entry, made, errors = 0, 0, [], [], []
+    count = sum(line_kind(line) == 'instruction' for _, line in lines)
+    entries, index, entry, alone, made, errors = 0, 0, [], False, [], []
     for k, line in lines:
         try:
-            if is_entry(line):
+            if line_kind(line) == 'entry':
                 entries += 1
                 entry = entry_line(line, entries)
+            elif line_kind(line) == 'words':
+                alone = words_line(line, alone)
             else:
                 index += 1
                 made.append(instruction_line(line, index - 1, count))
@@ -259,14 +274,15 @@ def assemble(path, text):
         errors.append(f'{path}:1: There is no instruction in this file.')
     if errors:
         raise Refused('\n'.join(errors))
-    return parcel([w for w, _ in made], [note for _, note in made], entry)
+    whole = parcel([w for w, _ in made], [note for _, note in made], entry)
+    return {'.vsp': whole, '.words': whole[16:16 + 8 * count]} if alone else {'.vsp': whole}
 
 
 # ---- files
 
 
 def loaded(path):
-    """The parcel's bytes that the source at `path` gives."""
+    """The bytes that the source at `path` gives, by ending."""
     try:
         with open(path, 'rb') as f:
             data = f.read()
@@ -279,16 +295,12 @@ def loaded(path):
     return assemble(path, text)
 
 
-def parcel_path(path):
-    return path[:-len('.vsa')] + '.vsp'
-
-
 def all_loaded(paths):
-    """The bytes by the parcel's path, and what is wrong with the sources."""
+    """The bytes by the path of what is made, and what is wrong with the sources."""
     made, errors = {}, []
     for path in paths:
         try:
-            made[parcel_path(path)] = loaded(path)
+            made.update((path[:-len('.vsa')] + ending, data) for ending, data in loaded(path).items())
         except Refused as refused:
             errors.append(str(refused))
     return made, errors
@@ -328,7 +340,7 @@ def store(made):
 
 
 def compared(path, data):
-    """Whether the parcel is these bytes, and a line that says so."""
+    """Whether the file has these bytes, and a line that says so."""
     try:
         with open(path, 'rb') as f:
             same = f.read() == data

@@ -1,4 +1,4 @@
-"""What the shell front says about parcels: which parcels to try it on, and what it must write on standard error.
+"""What the shell front says about parcels and words: which parcels to try it on, and what it must write on standard error.
 
     front.py parcels FOLDER               writes NAME.vsp, and NAME.out, what the lister must write
     front.py sentences PARCELS FOLDER     for each NAME.vsp in PARCELS writes FOLDER/NAME.err, the sentences
@@ -83,19 +83,23 @@ def claim(registers):
     return f'the parcel says that {filled} {verb} filled before it starts. That is its own claim; with --entry you say what the display really fills.'
 
 
+def size_told(data):
+    return 'more than 65536' if len(data) > 65536 else len(data)
+
+
 def about_size(data):
     n = int.from_bytes(data[6:8], 'little')
     if len(data) < 16:
         return f'the parcel is too short: it has {len(data)} of the 16 bytes of a header'
     if not 1 <= n <= 2048:
         return f"the parcel's count of instructions is {n}, and it must be from 1 to 2048"
-    size = 'more than 65536' if len(data) > 65536 else len(data)
     need = '1 instruction needs' if n == 1 else f'{n} instructions need'
-    return f"the parcel's length is wrong: it has {size} bytes, and {need} {16 + 16 * n}"
+    return f"the parcel's length is wrong: it has {size_told(data)} bytes, and {need} {16 + 16 * n}"
 
 
-def meaning(data, number, place, index, register):
-    word = f'the word at index {index}, {int.from_bytes(data[16 + 8 * index:24 + 8 * index], "little"):016X},'
+def meaning(data, number, place, index, register, start=16):
+    """Of a refusal of a parcel, or of what else has its words from `start` on."""
+    word = f'the word at index {index}, {int.from_bytes(data[start + 8 * index:start + 8 * index + 8], "little"):016X},'
     return {
         2: f'{word} is no instruction of the table',
         3: f'{word} has a 1 in a bit that its instruction does not use',
@@ -125,17 +129,34 @@ def sentences(data):
     return ''.join(f'vsp: {line}\n' for line in lines)
 
 
+def answer(data, result):
+    """What notes writes on standard error for the words `data`, of which paper01.infer gives `result`."""
+    if result[0] == 'notes':
+        return f'vsp: the notes took {result[1]} sweep{"" if result[1] == 1 else "s"}.\n'
+    _, number, place, index, register = result
+    if number == 12:
+        why = f'the length of the words in bytes is {size_told(data)}, and it must be 8 for each of 1 to 2048 instructions'
+    elif number == 24:
+        why = 'no notes at all would be accepted: some way through the program reads a register that is not filled there, ' \
+            'or leads out of the program; ways that begin in a part that is never reached count too'
+    else:
+        why = meaning(data, number, place, index, register, start=0)
+    hint = 'vsp: this file begins with the letters VSP, as a parcel does; notes takes the words alone.\n' if data[:3] == b'VSP' else ''
+    return f'REFUSED {number:02d} {index:04d} {register:02d}\nvsp: refused with {number}: {why}.\n{hint}'
+
+
 def write(folder, name, data):
     with open(os.path.join(folder, name), 'wb') as f:
         f.write(data)
 
 
-if sys.argv[1] == 'parcels':
-    for name, data in parcels.items():
-        write(sys.argv[2], name + '.vsp', data)
-        write(sys.argv[2], name + '.out', listing(data).encode())
-else:
-    for file in sorted(os.listdir(sys.argv[2])):
-        if file.endswith('.vsp'):
-            with open(os.path.join(sys.argv[2], file), 'rb') as f:
-                write(sys.argv[3], file[:-4] + '.err', sentences(f.read()).encode())
+if __name__ == '__main__':
+    if sys.argv[1] == 'parcels':
+        for name, data in parcels.items():
+            write(sys.argv[2], name + '.vsp', data)
+            write(sys.argv[2], name + '.out', listing(data).encode())
+    else:
+        for file in sorted(os.listdir(sys.argv[2])):
+            if file.endswith('.vsp'):
+                with open(os.path.join(sys.argv[2], file), 'rb') as f:
+                    write(sys.argv[3], file[:-4] + '.err', sentences(f.read()).encode())

@@ -34,3 +34,17 @@ misses() { # WHAT SENTENCE COMMAND..
 bound() {
     if [ "$(id -u)" = 0 ]; then setpriv --reuid=65534 --regid=65534 --clear-groups "$@"; else "$@"; fi
 }
+
+# Runs a command whose standard output is a terminal, and hands on what it writes there.
+on_terminal() { # COMMAND..
+    python3 -c '
+import os, pty, subprocess, sys
+ours, theirs = pty.openpty()
+status = subprocess.run(sys.argv[1:], stdout=theirs).returncode
+os.write(theirs, b"\0")
+shown = b""
+while not shown.endswith(b"\0"):
+    shown += os.read(ours, 65536)
+sys.stdout.buffer.write(shown[:-1])
+sys.exit(status)' "$@"
+}

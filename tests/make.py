@@ -147,6 +147,10 @@ SOURCES = [
     ('entry r1 r1\nNOP |\n', 1, 'r1 is named twice.'),
     ('entry u1\nNOP |\n', 1, "'u1' stands where only whole registers do."),
     ('entry r1 | r1\nNOP |\n', 1, "'|' is neither"),
+    ('words\nNOP |\nwords\n', 3, 'A line before this one asks for the words alone.'),
+    ('NOP |\nwords r0\n', 2, '`words` has its line for itself.'),
+    ('NOP |\nwords |\n', 2, '`words` has its line for itself.'),
+    ('words\n', 1, 'There is no instruction in this file.'),
     ('NOP |\r\nBRANCHZ c0 to 3 |\r\nNOP end |\r\n', 2, 'The instruction to branch to goes from 0 to 2, and 3 is more.'),
     ('NOP |\n' * 2048 + '# one more\nNOP end |\nNOP |\n', 2050, 'This is instruction 2049, and a parcel has 2048 at most.'),
     (b'NOP |\nNOP | # \xe9\n', 2, 'The line is not UTF-8.'),
@@ -204,6 +208,22 @@ def accepts_words(room):
         got = int.from_bytes(made['a name.vsp'][16 + 8 * k:24 + 8 * k], 'little')
         assert got == w, f'{code}: {got:016X} and not {w:016X}'
     assert made['a name.vsp'] == expected
+
+
+def gives_words(room):
+    """The words alone where a line asks for them, and not without it."""
+    folder = fresh(room)
+    text = ''.join(f'{code} | r1\n' for code, _ in WORDS)
+    put(folder, 'a.vsa', 'entry r2\n \twords # too\r\n' + text)
+    put(folder, 'b.vsa', 'entry r2\n' + text)
+    assert run(folder, 'a.vsa', 'b.vsa') == (0, '', '')
+    made = files(folder)
+    assert set(made) == {'a.vsa', 'a.vsp', 'a.words', 'b.vsa', 'b.vsp'}, set(made)
+    assert made['a.vsp'] == made['b.vsp']
+    assert made['a.words'] == b''.join(w.to_bytes(8, 'little') for _, w in WORDS)
+    assert run(folder, '--check', 'a.vsa') == (0, 'a.vsp: as its source says\na.words: as its source says\n', '')
+    put(folder, 'a.words', made['a.words'] + b'\0')
+    assert run(folder, '--check', 'a.vsa') == (1, 'a.vsp: as its source says\na.words: differs from its source\n', '')
 
 
 def accepts_limits(room):
@@ -325,25 +345,26 @@ def compares(room):
 
 
 def makes_all(room):
-    """Without names, in a copy of the repository's part that it needs: the stored parcels, or none."""
+    """Without names, in a copy of the repository's part that it needs: the stored parcels and words, or none."""
+    endings = ('.vsp', '.words')
     root, copy = os.path.join(os.path.dirname(program), '..'), fresh(room)
     shutil.copytree(os.path.join(root, 'samples'), os.path.join(copy, 'samples'))
     os.mkdir(os.path.join(copy, 'tests'))
     shutil.copy(os.path.join(root, 'tests', 'paper01.py'), os.path.join(copy, 'tests'))
-    stored = {name: data for name, data in files(os.path.join(root, 'samples')).items() if name.endswith('.vsp')}
+    stored = {name: data for name, data in files(os.path.join(root, 'samples')).items() if name.endswith(endings)}
     assert stored
     for name in stored:
         os.remove(os.path.join(copy, 'samples', name))
     call = [sys.executable, os.path.join('samples', 'make.py')]
     assert subprocess.run(call + ['--check'], cwd=copy, capture_output=True).returncode == 1
     assert subprocess.run(call, cwd=copy).returncode == 0
-    assert {name: data for name, data in files(os.path.join(copy, 'samples')).items() if name.endswith('.vsp')} == stored
+    assert {name: data for name, data in files(os.path.join(copy, 'samples')).items() if name.endswith(endings)} == stored
     for name in stored:
         os.remove(os.path.join(copy, 'samples', name))
     put(os.path.join(copy, 'samples'), 'zz.vsa', 'NOP\n')
     done = subprocess.run(call, cwd=copy, capture_output=True, encoding='utf8')
     assert done.returncode == 1 and done.stderr.startswith(os.path.join('samples', 'zz.vsa:1: The bar')), done
-    assert not any(name.endswith('.vsp') for name in os.listdir(os.path.join(copy, 'samples')))
+    assert not any(name.endswith(endings) for name in os.listdir(os.path.join(copy, 'samples')))
 
 
 def tells_unwritten(room):
@@ -356,7 +377,7 @@ def tells_unwritten(room):
 
 
 with tempfile.TemporaryDirectory() as room:
-    for test in (accepts_words, accepts_limits, refuses, refuses_together, refuses_each_line, refuses_files, takes_arguments, compares,
+    for test in (accepts_words, gives_words, accepts_limits, refuses, refuses_together, refuses_each_line, refuses_files, takes_arguments, compares,
                  makes_all, tells_unwritten):
         test(room)
 print(f'samples/make.py: {len(WORDS)} words as the paper says, {len(refusals())} refusals')

@@ -1,4 +1,4 @@
-"""Paper 01 in plain Python, written from the paper and source document 002 alone.
+"""Paper 01, and Item 1 of paper 02, in plain Python, written from the papers and source document 002 alone.
 
 It is the second opinion from which the expected outputs of the tests are made; it shares no table with the Rattle code."""
 
@@ -240,6 +240,12 @@ def effect(w):
     return reads, releases, writes, bits(w, 59, 4) == 15, offset
 
 
+def successors(w, i):
+    """Where instruction i, a word that reads, can go on: the fall-through, then the branch target."""
+    *_, ends, offset = effect(w)
+    return [] if ends else [i + 1] if offset is None else [i + 1, i + 1 + offset]
+
+
 def members(s):
     return {r for r in range(64) if s >> r & 1}
 
@@ -276,13 +282,11 @@ def check(data):
     if notes[0] - entry:
         return 23, 0, 0, min(notes[0] - entry)
     for i, w in enumerate(words):
-        reads, releases, writes, ends, offset = effect(w)
+        reads, releases, writes, _, _ = effect(w)
         if reads - notes[i]:
             return 20, 0, i, min(reads - notes[i])
-        if ends:
-            continue
         held = notes[i] - releases | writes
-        for j in [i + 1] + ([] if offset is None else [i + 1 + offset]):
+        for j in successors(w, i):
             if not 0 <= j < n:
                 return 21, 0, i, 64
             if notes[j] - held:
@@ -317,3 +321,43 @@ def parcel(words, notes, entry, mark=b'VSP', version=1, zero=0, n=None):
     n = len(words) if n is None else n
     head = mark + version.to_bytes(2, 'little') + bytes([zero]) + n.to_bytes(2, 'little') + members_of(entry).to_bytes(8, 'little')
     return head + b''.join(w.to_bytes(8, 'little') for w in words) + b''.join(members_of(s).to_bytes(8, 'little') for s in notes)
+
+
+def pack(entry, words, notes, out):
+    """Packing an entry set, the words' bytes and the notes' into a buffer: the number of the refusal or None, and the buffer afterwards."""
+    n = len(words) // 8
+    if not 1 <= n <= 2048 or len(words) != 8 * n or len(notes) != 8 * n or len(out) != 16 + 16 * n:
+        return 12, out
+    return None, b'VSP' + (1).to_bytes(2, 'little') + bytes(1) + n.to_bytes(2, 'little') + entry.to_bytes(8, 'little') + words + notes
+
+
+# ---- the maker (paper 02, Item 1)
+
+
+def swept(words, entry):
+    """The sweeps that it takes, the last, unchanging one included, and the notes then; words that read, an entry set, notes: numbers."""
+    n = len(words)
+    changes = [(members_of(releases), members_of(writes)) for _, releases, writes, _, _ in map(effect, words)]
+    arrivals = [(i, j) for i, w in enumerate(words) for j in successors(w, i) if 0 <= j < n]
+    old, notes, sweeps = None, [entry] + [(1 << 64) - 1] * (n - 1), 0
+    while notes != old:
+        old, notes, sweeps = notes, notes[:], sweeps + 1
+        left = [note & ~releases | writes for note, (releases, writes) in zip(old, changes)]
+        for i, j in arrivals:
+            notes[j] &= left[i]
+    return sweeps, notes
+
+
+def infer(data, entry):
+    """For the words' bytes and the entry set's registers: ('notes', sweeps, parcel) or ('refused', number, place, index, register)."""
+    words = [int.from_bytes(data[i:i + 8], 'little') for i in range(0, len(data), 8)]
+    if len(data) % 8 or not 1 <= len(words) <= 2048:
+        return 'refused', 12, 0, 0, 64
+    for i, w in enumerate(words):
+        result = read(w.to_bytes(8, 'little'))
+        if result[0] == 'refused':
+            return 'refused', result[1], result[2], i, 64
+    sweeps, notes = swept(words, members_of(entry))
+    made = parcel(words, [members(note) for note in notes], entry)
+    # the notes contain every acceptable set, so where they are refused none is accepted
+    return ('notes', sweeps, made) if check(made) is None else ('refused', 24, 0, 0, 64)

@@ -59,6 +59,24 @@ pub enum Verdict {
     },
 }
 
+/// The answer of [`infer`], which says what is promised of the notes.
+#[derive(Clone, Copy, Debug, PartialEq, Eq)]
+pub enum Inference {
+    /// The buffer has the notes.
+    Proposed {
+        /// How many sweeps it took, the last one, which changes nothing, included.
+        sweeps: u16,
+    },
+    Refused {
+        number: u8,
+        place: u8,
+        /// The instruction at fault, 0 where none is.
+        index: u16,
+        /// 64: none of these refusals blames a register.
+        register: u8,
+    },
+}
+
 /// Opens a parcel, reads all its words and checks its notes.
 ///
 /// In an accepted parcel no instruction reads a register that isn't held, whichever way the
@@ -76,6 +94,32 @@ pub fn check(parcel: &[u8]) -> Verdict {
         place: (code >> 8) as u8,
         index: (code >> 16) as u16,
         register: (code >> 32) as u8,
+    }
+}
+
+/// Makes notes for words that come without any. Words and notes are as in a parcel, 8 bytes
+/// for each instruction, so both have the same length. The entry set (bit r for register r) is
+/// the caller's to know: the words don't say what the display fills before it starts the
+/// program.
+///
+/// Where notes are proposed the buffer is filled with them, and [`check`] accepts the parcel of
+/// this entry set, these words and these notes. They name all that any accepted notes name;
+/// where every instruction lies on some way through the program, just what is held whichever
+/// way the program comes there.
+///
+/// A refusal leaves the buffer as it was: 12 for the length of words or notes; 2 to 7 for the
+/// lowest word that isn't legal; 24 where no notes at all would be accepted. Takes some 120 KB
+/// of stack.
+pub fn infer(words: &[u8], entry: u64, notes: &mut [u8]) -> Inference {
+    let code = raw::infer(words, entry, notes);
+    match code as u8 {
+        0 => Inference::Proposed { sweeps: (code >> 16) as u16 },
+        number => Inference::Refused {
+            number,
+            place: (code >> 8) as u8,
+            index: (code >> 16) as u16,
+            register: (code >> 32) as u8,
+        },
     }
 }
 

@@ -7,6 +7,7 @@ unsafe extern "C" {
     fn vsp_read(word: *const u8, length: usize, form: *mut u8) -> u32;
     fn vsp_write(form: *const u8, word: *mut u8, length: usize) -> u32;
     fn vsp_fresh(row: u64, form: *mut u8) -> u32;
+    fn vsp_infer(words: *const u8, length: usize, entry: u64, notes: *mut u8, notes_length: usize) -> u64;
 }
 
 /// 0, or number + 2^8 place + 2^16 index + 2^32 register.
@@ -31,4 +32,11 @@ pub fn write(form: &[u8; FORM], word: &mut [u8]) -> u32 {
 pub fn fresh(row: u64, form: &mut [u8; FORM]) -> u32 {
     // SAFETY: the form is 32 bytes to write to.
     unsafe { vsp_fresh(row, form.as_mut_ptr()) }
+}
+
+/// 2^16 sweeps, or number + 2^8 place + 2^16 index + 2^32 register; then the notes keep their
+/// bytes.
+pub fn infer(words: &[u8], entry: u64, notes: &mut [u8]) -> u64 {
+    // SAFETY: the words are as long as said, to read; the notes are, to write to, and apart.
+    unsafe { vsp_infer(words.as_ptr(), words.len(), entry, notes.as_mut_ptr(), notes.len()) }
 }

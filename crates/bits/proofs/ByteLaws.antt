@@ -1,16 +1,16 @@
 -- Laws of little-endian numbers. Assumes nothing.
 use mathlib.Core.Path.{_≡_, refl, ap, _∙_}
-use mathlib.Core.List.{List, [], _∷_}
+use mathlib.Core.List.{List, [], _∷_, _++_}
 use Prim.Native.Nat.{ℕ, zero, suc, _+_, _*_, _/_, _%_, _^_, _<_}
 use native.Mathlib.Nat.{add-zero, div-div-eq-div-mul, le-of-eq, pow-suc, mul-comm}
 use native.Mathlib.Numerals.{add-one}
 use native.Mathlib.Omega.{arith}
-use lib.Dec.{T, ltb, ltb→lt}
-use lib.ListN.{length, getD, drop, set, drop-of-length-le}
+use lib.Dec.{T, ltb, ltb→lt, lt→ltb}
+use lib.ListN.{length, getD, take, drop, set, drop-of-length-le}
 use lib.Pow.{areBytes}
 use lib.Seq.{drop-cons, drop-length, getD-drop, drop-drop}
 use Rattle.bits.specs.Bytes.{little, little-bytes}
-use Rattle.bits.proofs.Every.{and-l, and-r}
+use Rattle.bits.proofs.Every.{and-both, and-l, and-r}
 
 little-step : (b : List ℕ) → little b ≡ getD b 0 0 + 256 * little (drop 1 b)
 unfolding little
@@ -59,6 +59,32 @@ pub length-bytes : (n w : ℕ) → length (little-bytes n w) ≡ n
 unfolding little-bytes
 length-bytes zero w = refl
 length-bytes (suc n) w = ap suc (length-bytes n (w / 256))
+
+-- bytes that are taken from bytes, joined, or a number's
+take-bytes : (k : ℕ) (s : List ℕ) → T (areBytes s) → T (areBytes (take k s))
+take-bytes zero s t = tt
+take-bytes (suc k) [] t = tt
+take-bytes (suc k) (x ∷ s) t =
+    and-both (ltb x 256) (areBytes (take k s)) (and-l (ltb x 256) (areBytes s) t) (take-bytes k s (and-r (ltb x 256) (areBytes s) t))
+
+drop-bytes : (k : ℕ) (s : List ℕ) → T (areBytes s) → T (areBytes (drop k s))
+drop-bytes zero s t = t
+drop-bytes (suc k) [] t = tt
+drop-bytes (suc k) (x ∷ s) t = drop-bytes k s (and-r (ltb x 256) (areBytes s) t)
+
+pub part-bytes : (s : List ℕ) (start k : ℕ) → T (areBytes s) → T (areBytes (take k (drop start s)))
+part-bytes s start k t = take-bytes k (drop start s) (drop-bytes start s t)
+
+pub append-bytes : (s u : List ℕ) → T (areBytes s) → T (areBytes u) → T (areBytes (s ++ u))
+append-bytes [] u t v = v
+append-bytes (x ∷ s) u t v =
+    and-both (ltb x 256) (areBytes (s ++ u)) (and-l (ltb x 256) (areBytes s) t) (append-bytes s u (and-r (ltb x 256) (areBytes s) t) v)
+
+pub number-bytes : (n w : ℕ) → T (areBytes (little-bytes n w))
+unfolding little-bytes
+number-bytes zero w = tt
+number-bytes (suc n) w =
+    and-both (ltb (w % 256) 256) (areBytes (little-bytes n (w / 256))) (lt→ltb (w % 256) 256 (omega arith)) (number-bytes n (w / 256))
 
 -- n elements of a list, from i on
 abbrev pub elements : ℕ → ℕ → List ℕ → List ℕ

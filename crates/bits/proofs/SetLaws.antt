@@ -3,18 +3,18 @@ use Prim.Native.Nat.{ℕ, zero, suc, _+_, _-_, _*_, _/_, _%_, _^_, _≤_, _<_, m
 use mathlib.Core.Path.{_≡_, refl, sym, ap, ap₂, _∙_, subst}
 use mathlib.Core.Logic.{_⊎_, inl, inr, ⊎-elim, _↔_, _≢_}
 use native.Mathlib.Omega.{arith}
-use native.Mathlib.Nat.{mod-lt, pow-suc, one-mul, add-zero, zero-add, div-one, div-div-eq-div-mul, div-eq-of-lt, lt-of-lt-of-le, eq-or-lt-of-le}
+use native.Mathlib.Nat.{le-antisymm, le-of-suc-le-suc, mod-lt, pow-suc, one-mul, add-zero, zero-add, div-one, div-div-eq-div-mul, div-eq-of-lt, lt-of-lt-of-le, eq-or-lt-of-le}
 use native.Mathlib.Numerals.{add-one}
 use lib.Arith.{bin-ind}
 use lib.Pow.{shr-shr, shl-shr, pow-pos, pow-mono}
 use lib.Bits.{bitAnd, bitOr, and-step, or-step, and-le-l, and-le-r}
 use lib.Count.{trailingZeros, under}
 use mathlib.Core.Bool.{Bool, true, false, _&&_, not}
-use lib.Dec.{eqb, ltb}
+use lib.Dec.{T, eqb, ltb}
 use borrow.Author.Tests.{eq-eqb, ne-eqb, eqb-true, ltb-true, ltb-false}
 use Rattle.bits.specs.Fields.{choose}
 use Rattle.bits.specs.Sets.{Has, has, minus, lowest-from, lowest}
-use Rattle.bits.proofs.Every.{clash}
+use Rattle.bits.proofs.Every.{clash, T-true, and-l, and-r}
 
 bit : ℕ → ℕ → ℕ
 bit s r = s / 2 ^ r % 2
@@ -276,3 +276,32 @@ bit-pow (suc q) (suc r) e =
 pub has-single : (q r : ℕ) → Has (2 ^ q) r ↔ (r ≡ q)
 unfolding Has bit
 has-single q r = (λ h. bit-pow q r h, λ e. subst (λ (x : ℕ). Has (2 ^ q) x) (sym e) (bit-same q))
+
+-- sets with the same members are the same number
+pub same-set : (a b : ℕ) → ((r : ℕ) → (Has a r ↔ Has b r)) → a ≡ b
+same-set a b h = le-antisymm (subset-le a b (λ r. h r .0)) (subset-le b a (λ r. h r .1))
+
+-- what lies in a set already is left by it
+pub and-twice : (a b : ℕ) → bitAnd (bitAnd a b) b ≡ bitAnd a b
+and-twice a b = same-set (bitAnd (bitAnd a b) b) (bitAnd a b) (λ r. (
+  λ h. has-and (bitAnd a b) b r .0 h .0,
+  λ h. has-and (bitAnd a b) b r .1 (h, has-and a b r .0 h .1),
+))
+
+-- the members of the set of all 64, by computation
+ones : ℕ → Bool
+ones zero = true
+ones (suc n) = has (2 ^ 64 - 1) n && ones n
+
+ones-at : (n : ℕ) → T (ones n) → (r : ℕ) → r < n → Has (2 ^ 64 - 1) r
+unfolding ones
+ones-at zero t r l = absurd (omega arith)
+ones-at (suc n) t r l =
+    ⊎-elim
+    (λ e. rw e (true-has (2 ^ 64 - 1) n (T-true (has (2 ^ 64 - 1) n) (and-l (has (2 ^ 64 - 1) n) (ones n) t))))
+    (λ q. ones-at n (and-r (has (2 ^ 64 - 1) n) (ones n) t) r q)
+    (eq-or-lt-of-le (le-of-suc-le-suc l))
+
+pub has-all : (r : ℕ) → (Has (2 ^ 64 - 1) r ↔ (r < 64))
+unfolding ones
+has-all r = (member-below (2 ^ 64 - 1) r (omega arith), ones-at 64 tt r)

@@ -1,6 +1,9 @@
--- Demand 1: a call gives what it is for, be it the record of a word, the word of a record, an opened parcel or a verdict, or it refuses,
--- and then with a single number: the one whose turn comes first (01, Numbers given back).
+-- Demand 1: a call gives what it is for, be it the record of a word, the word of a record, an opened or a written parcel, a verdict, or
+-- the notes that the maker proposes and the number of its sweeps (02, Item 1), or it refuses, and then with a single number: the one whose
+-- turn comes first (01, Numbers given back).
 use mathlib.Core.Bool.{Bool, true, false}
+use mathlib.Core.List.{List}
+use Prim.Native.Nat.{ℕ}
 
 -- what a call ends with: a value, or a refusal. R says what a refusal tells: its number, and with it a place, or more.
 pub data Outcome (R A : Type 0) : Type 0 where
@@ -21,3 +24,8 @@ infixr 3 _then_
 unfoldable pub _then_ : {R A : Type 0} → Outcome R (Unit {0}) → Outcome R A → Outcome R A
 gives _ then b = b
 refuses r then b = refuses r
+
+-- what a buffer that held `old` holds after a call: the new bytes where the call gave something, and on a refusal the old ones
+abbrev pub kept-or : {R A : Type 0} → Outcome R A → List ℕ → List ℕ → List ℕ
+kept-or (gives _) new old = new
+kept-or (refuses _) new old = old

@@ -22,6 +22,10 @@ minus a b = a - bitAnd a b
 abbrev pub union : ℕ → ℕ → ℕ
 union a b = bitOr a b
 
+-- the members of both
+abbrev pub intersection : ℕ → ℕ → ℕ
+intersection a b = bitAnd a b
+
 -- the set of r alone; the empty set where r is no number below 64
 abbrev pub single : ℕ → ℕ
 single r = choose (ltb r 64) (2 ^ r) 0

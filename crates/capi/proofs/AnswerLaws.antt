@@ -1,5 +1,5 @@
 -- The answers of the exported functions. Assumes nothing.
-use mathlib.Core.Path.{_≡_, sym, ap, _∙_}
+use mathlib.Core.Path.{_≡_, sym, ap, _∙_, subst}
 use mathlib.Core.Bool.{true, false}
 use mathlib.Core.List.{List}
 use Prim.Native.Nat.{ℕ, _<_, _≤_}
@@ -10,7 +10,10 @@ use Rattle.rows.specs.Rows.{row-count}
 use Rattle.writer.specs.Writer.{write, stored}
 use Rattle.record.specs.declared.instruction.Instruction.{Instruction}
 use Rattle.record.specs.declared.answer.Refusal.{Refusal}
-use Rattle.capi.specs.Codes.{code, outcome-code}
+use Rattle.verifier.specs.declared.verdict.Finding.{Finding}
+use Rattle.infer.specs.Inference.{infer-outcome, infer-buffer}
+use Rattle.infer.specs.Asked.{AsAsked, Inferred}
+use Rattle.capi.specs.Codes.{code, outcome-code, infer-code}
 use Rattle.capi.specs.Form.{form-of, form-after, instruction-of-form, padded, write-form, word-after}
 
 module _ (f : List ℕ) {o : Outcome Refusal Instruction} where
@@ -52,3 +55,12 @@ module _ (f bs : List ℕ) where
       pub unwritten : padded f ≡ false → {g : Refusal} → refuses g ≡ write (instruction-of-form f) bs → {n : ℕ} → n ≡ code g
           → {last : List ℕ} → last ≡ stored (instruction-of-form f) bs → Answered n last
       unwritten p e q k = (q ∙ ap outcome-code (e ∙ sym (through p)), k ∙ sym (kept p))
+
+-- the code of what the maker answers
+module _ {words : List ℕ} {entry : ℕ} {buffer : List ℕ} {o : Outcome Finding ℕ} {after : List ℕ} (made : Inferred words entry buffer o after) where
+  pub proposed : {q : Outcome Finding ℕ} → o ≡ q → {r : ℕ} → r ≡ infer-code q
+      → (r ≡ infer-code (infer-outcome words entry buffer)) × ((after ≡ infer-buffer words entry buffer) × AsAsked words entry buffer (infer-outcome words entry buffer) after)
+  proposed p e = (
+    e ∙ ap infer-code (sym p ∙ made .answers),
+    (made .leaves, subst (λ (x : Outcome Finding ℕ). AsAsked words entry buffer x after) (made .answers) (made .asked)),
+  )

@@ -1,10 +1,10 @@
--- The index of a finding has room in its place. Assumes nothing.
-use mathlib.Core.Path.{_≡_}
+-- The index of a finding and the number of sweeps have room in their place. Assumes nothing.
+use mathlib.Core.Path.{_≡_, sym, _∙_}
 use mathlib.Core.List.{List}
-use Prim.Native.Nat.{ℕ, _<_}
+use Prim.Native.Nat.{ℕ, _^_, _<_}
 use native.Mathlib.Omega.{arith}
 use lib.ListN.{getD}
-use Rattle.bits.specs.Outcomes.{refuses}
+use Rattle.bits.specs.Outcomes.{Outcome, gives, refuses}
 use Rattle.container.specs.Container.{count-of}
 use Rattle.container.proofs.OpeningLaws.{count-two}
 use Rattle.verifier.specs.declared.verdict.Finding.{Finding}
@@ -13,6 +13,8 @@ use Rattle.verifier.specs.Verdict.{verdict-of}
 use Rattle.verifier.specs.Reasons.{Reason, unopened, unreadable, wrong, Wrong, entry-lacks, annotation-lacks, runs-off, successor-lacks}
 use Rattle.verifier.proofs.ProgramLaws.{bytes-below}
 use Rattle.verifier.proofs.ReasonLaws.{reason}
+use Rattle.infer.specs.Asked.{Inferred}
+use Rattle.infer.proofs.NumberedLaws.{infer-indexes, infer-sweeps-few}
 
 module _ (s : List ℕ) (h : (k : ℕ) → getD s k 0 < 256) where
   few : count-of s < 65536
@@ -31,3 +33,10 @@ module _ (s : List ℕ) (h : (k : ℕ) → getD s k 0 < 256) where
 
   pub index-small : {f : Finding} → verdict-of s ≡ refuses f → f .index < 65536
   index-small e = reason-small (reason s (bytes-below s h) e)
+
+module _ {words : List ℕ} {entry : ℕ} {buffer : List ℕ} {o : Outcome Finding ℕ} {after : List ℕ} (made : Inferred words entry buffer o after) where
+  pub maker-index-small : {f : Finding} → o ≡ refuses f → f .index < 65536
+  maker-index-small {f} e = omega (arith, infer-indexes words entry buffer f (sym (made .answers) ∙ e))
+
+  pub sweeps-small : entry < 2 ^ 64 → {k : ℕ} → o ≡ gives k → k < 65536
+  sweeps-small small {k} e = let s = infer-sweeps-few words entry buffer small k (sym (made .answers) ∙ e) in omega (arith, s .1)

@@ -35,7 +35,9 @@ use Rattle.verifier.specs.Demand3.{Demand3At}
 use Rattle.verifier.proofs.Demand3.{demand3}
 use Rattle.verifier.proofs.ProgramLaws.{bytes-below}
 use Rattle.verifier.proofs.NumberedLaws.{FromTheRules, verdict-numbers}
-use Rattle.capi.specs.Codes.{verdict-code}
+use Rattle.infer.specs.Inference.{infer-outcome}
+use Rattle.infer.proofs.NumberedLaws.{FromTheMaker, infer-numbers}
+use Rattle.capi.specs.Codes.{verdict-code, infer-code}
 use Rattle.capi.specs.Form.{half, form-of, pick, instruction-of-form, padded, write-form, word-after}
 use Rattle.capi.specs.Promises.{ZeroTells, ZeroMeansDone, ReadThenWritten, WrittenThenRead, FreshThenWritten}
 use Rattle.capi.proofs.OffsetLaws.{few}
@@ -65,6 +67,10 @@ verdict-zero (refuses f) h = (λ e. absurd (omega (arith, h f refl, e)), λ e. n
 no-rule-0 : {n : ℕ} → FromTheRules n → 0 < n
 no-rule-0 = ⊎-elim (λ b. omega (arith, b .0)) (⊎-elim (λ b. omega (arith, b .0)) (λ b. omega (arith, b .0)))
 
+infer-zero : (o : Outcome Finding ℕ) → Refusals (λ (f : Finding). FromTheMaker (f .number)) o → (infer-code o % 256 ≡ 0) ↔ ((k : ℕ) × (o ≡ gives k))
+infer-zero (gives k) h = (λ e. (k, refl), λ g. omega arith)
+infer-zero (refuses f) h = (λ e. absurd (⊎-elim (λ b. omega (arith, b, e)) (⊎-elim (λ q. omega (arith, q, e)) (λ q. omega (arith, q, e))) (h f refl)), λ g. never (g .1))
+
 pub zero-means-done : ZeroMeansDone
 zero-means-done =
     record {
@@ -72,6 +78,7 @@ zero-means-done =
       of-write = λ f buffer. zero-tells (write-form f buffer) (weaker some (form-numbers f buffer));
       of-fresh = λ row. zero-tells (fresh row) (weaker (λ (f : Refusal) (n : f .number ≡ 2). omega (arith, n)) (fresh-numbers row));
       of-check = λ s. verdict-zero (verdict-of s) (weaker (λ (f : Finding) (n : FromTheRules (f .number)). no-rule-0 n) (verdict-numbers s));
+      of-infer = λ words entry buffer. infer-zero (infer-outcome words entry buffer) (infer-numbers words entry buffer);
     }
 
 -- so demand 3 holds of a check that answers 0 where it accepts

@@ -22,3 +22,8 @@ packed f = f .number + 2 ^ 8 * f .place + 2 ^ 16 * f .index + 2 ^ 32 * f .regist
 abbrev pub verdict-code : Judgement → ℕ
 verdict-code (gives _) = 0
 verdict-code (refuses f) = packed f
+
+-- the number of sweeps at bit 16, with number 0, or the finding
+abbrev pub infer-code : Outcome Finding ℕ → ℕ
+infer-code (gives k) = 2 ^ 16 * k
+infer-code (refuses f) = packed f

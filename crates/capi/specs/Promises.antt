@@ -3,7 +3,7 @@
 use mathlib.Core.Path.{_≡_}
 use mathlib.Core.List.{List}
 use mathlib.Core.Logic.{_↔_}
-use Prim.Native.Nat.{ℕ, _<_}
+use Prim.Native.Nat.{ℕ, _%_, _^_, _<_}
 use lib.ListN.{length, getD}
 use Rattle.bits.specs.Outcomes.{Outcome, gives, passes}
 use Rattle.record.specs.declared.instruction.Instruction.{Instruction}
@@ -12,7 +12,8 @@ use Rattle.codec.specs.Demand2.{Given}
 use Rattle.reader.specs.Reader.{read}
 use Rattle.record.specs.Defaults.{fresh}
 use Rattle.verifier.specs.Verdict.{verdict-of}
-use Rattle.capi.specs.Codes.{outcome-code, verdict-code}
+use Rattle.infer.specs.Inference.{infer-outcome}
+use Rattle.capi.specs.Codes.{outcome-code, verdict-code, infer-code}
 use Rattle.capi.specs.Form.{form-of, write-form, word-after}
 
 -- "Gives 0 .., or number + 2^8 place": the code is 0 exactly where something is given, so that no refusal looks like success
@@ -29,6 +30,9 @@ pub record ZeroMeansDone : Type 0 where
   pub of-fresh : (row : ℕ) → ZeroTells (fresh row)
   -- vsp_check: "Gives 0 where the parcel is accepted"
   pub of-check : (s : List ℕ) → (verdict-code (verdict-of s) ≡ 0) ↔ (verdict-of s ≡ passes)
+  -- vsp_infer: "so that the number is 0, where it proposes notes". The number is the code's lowest byte.
+  pub of-infer : (words : List ℕ) (entry : ℕ) (buffer : List ℕ)
+      → (infer-code (infer-outcome words entry buffer) % 2 ^ 8 ≡ 0) ↔ ((k : ℕ) × (infer-outcome words entry buffer ≡ gives k))
 
 -- vsp_read: "Writing the form gives the same word again." Whatever the buffer of 8 bytes held, it then holds the bytes that were read.
 abbrev pub ReadThenWritten : Type 0

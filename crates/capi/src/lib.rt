@@ -5,7 +5,9 @@ ghost use Rattle.reader.specs.Reader.{read};
 ghost use Rattle.record.specs.Defaults.{fresh};
 ghost use Rattle.verifier.specs.Verdict.{verdict-of};
 ghost use Rattle.verifier.specs.Demand3.{Demand3At};
-ghost use Rattle.capi.specs.Codes.{code, packed, outcome-code, verdict-code};
+ghost use Rattle.infer.specs.Inference.{infer-outcome, infer-buffer};
+ghost use Rattle.infer.specs.Asked.{AsAsked};
+ghost use Rattle.capi.specs.Codes.{code, packed, outcome-code, verdict-code, infer-code};
 ghost use Rattle.capi.specs.Form.{form-after, write-form, word-after};
 use crate::form::form_of;
 use crate::form::instruction_of_form;
@@ -13,6 +15,8 @@ use crate::form::padded;
 use bits::bytes::wide;
 use codec::read_word;
 use codec::write_word;
+use infer::answer::Inference;
+use infer::infer;
 use reader::answer::Reading;
 use record::answer::Fresh;
 use record::answer::Refusal;
@@ -50,6 +54,21 @@ pub extern "C" fn vsp_check(container: &[u8]) -> u64
     match v {
         Verdict::Accepted => 0,
         Verdict::Refused(f) => finding_code(f),
+    }
+}
+
+// Makes annotations for words and an entry set: 2^16 times the number of sweeps, or the finding as one number, and then the buffer keeps
+// its bytes.
+#[no_mangle]
+pub extern "C" fn vsp_infer(words: &[u8], entry: u64, annotations: &mut [u8]) -> u64
+    ensures answer { λ r. ⌜ r ≡ infer-code (infer-outcome (now (words .entry)) entry (now (annotations .entry))) ⌝ }
+    ensures kept { λ r. ⌜ now (annotations .exit) ≡ infer-buffer (now (words .entry)) entry (now (annotations .entry)) ⌝ }
+    ensures asked { λ r. ⌜ AsAsked (now (words .entry)) entry (now (annotations .entry)) (infer-outcome (now (words .entry)) entry (now (annotations .entry))) (now (annotations .exit)) ⌝ }
+{
+    let a = infer(words, entry, annotations);
+    match a {
+        Inference::Proposed(k) => 65536 * k as u64,
+        Inference::Refused(f) => finding_code(f),
     }
 }
 

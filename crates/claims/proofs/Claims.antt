@@ -1,13 +1,14 @@
--- What is proved, on one page: every top theorem by name, but for those of sweeps, which no call makes yet. The types are the statements; the
--- definitions in them stand in the `specs` folders, in the order that README gives. The calls are those that users have: their contracts
--- stand at the calls, in `src`. Assumes nothing.
+-- What is proved, on one page: every top theorem by name. The types are the statements; the definitions in them stand in the `specs` folders,
+-- in the order that README gives. The calls are those that users have: their contracts stand at the calls, in `src`. Assumes nothing.
 use mathlib.Core.List.{List}
-use Prim.Native.Nat.{ℕ, _<_, _≤_}
+use Prim.Native.Nat.{ℕ, suc, _^_, _<_, _≤_}
 use mathlib.Core.Path.{_≡_}
-use mathlib.Core.Logic.{_≢_, _⊎_}
+use mathlib.Core.Logic.{_≢_, _⊎_, _↔_}
 use lib.Dec.{T}
+use lib.ListN.{length}
 use lib.Pow.{areBytes}
 use Rattle.bits.specs.Outcomes.{Outcome, gives, refuses, passes}
+use Rattle.bits.specs.Sets.{Has}
 use Rattle.rows.specs.Rows.{row-count}
 use Rattle.record.specs.declared.answer.Refusal.{Refusal}
 use Rattle.record.specs.declared.instruction.Instruction.{Instruction}
@@ -33,23 +34,38 @@ use Rattle.container.proofs.view.word_at as word-at-call
 use Rattle.container.proofs.view.view_of as view-call
 use Rattle.container.proofs.view.open_count as count-call
 use Rattle.container.proofs.WordLaws as word-laws
-use Rattle.container.specs.Container.{count-of, words-of, eight}
+use Rattle.container.proofs.pack.fit as fit-call
+use Rattle.container.proofs.pack.pack as pack-call
+use Rattle.container.proofs.PackLaws as pack-laws
+use Rattle.container.specs.Container.{count-of, entry-of, words-of, annotations-of, eight}
+use Rattle.container.specs.Packing.{word-count, Fitting, container-bytes, pack-outcome}
 use Rattle.bits.specs.Bytes.{little}
 use Rattle.container.specs.Opening.{Rejection, unplaced, open-outcome, Opens}
 use Rattle.container.specs.Words.{word-outcome, open-count}
 use Rattle.container.proofs.NumberedLaws as container-numbers
 use Rattle.verifier.specs.declared.verdict.Finding.{Finding}
 use Rattle.verifier.specs.Verdict.{Judgement, verdict-of}
+use Rattle.verifier.specs.Program.{Program, machine}
 use Rattle.verifier.specs.Reasons.{Reason}
 use Rattle.verifier.specs.Demand3.{Demand3}
 use Rattle.verifier.specs.Lazy.{WavesThrough}
 use Rattle.walks.specs.Walks.{Machine, HoldsIfSupplied}
+use Rattle.walks.specs.Sweeps.{Note, Reports}
 use Rattle.walks.proofs.WalkLaws as walk-laws
 use Rattle.verifier.proofs.verify as check-call
 use Rattle.verifier.proofs.NumberedLaws as verifier-numbers
 use Rattle.verifier.proofs.Demand3 as demand-3-met
 use Rattle.verifier.proofs.ReasonLaws as reasons
 use Rattle.verifier.proofs.LazyChecks as lazy-checks
+use Rattle.infer.specs.Sweeps.{note, sweeps}
+use Rattle.infer.specs.Inference.{infer-outcome, infer-buffer}
+use Rattle.infer.specs.Asked.{Maker, Asked}
+use Rattle.infer.specs.Lazy.{AlwaysNone, NamesNothing, LeavesOutTheLast, StopsEarly}
+use Rattle.infer.proofs.infer as infer-call
+use Rattle.infer.proofs.AskedLaws as inferred
+use Rattle.infer.proofs.SweepLaws as sweep-laws
+use Rattle.infer.proofs.LazyMakers as lazy-makers
+use Rattle.infer.proofs.NumberedLaws as infer-numbers
 use Rattle.listing.specs.Listing.{listing}
 use Rattle.listing.specs.Asked.{ListedAsAsked}
 use Rattle.listing.specs.Cut.{FromTheFront}
@@ -61,6 +77,7 @@ use Rattle.capi.proofs.vsp_read as vsp-read-call
 use Rattle.capi.proofs.vsp_write as vsp-write-call
 use Rattle.capi.proofs.vsp_fresh as vsp-fresh-call
 use Rattle.capi.proofs.vsp_check as vsp-check-call
+use Rattle.capi.proofs.vsp_infer as vsp-infer-call
 use Rattle.capi.proofs.PromiseLaws as promises
 
 -- ---- Demand 1: every call ends, with the answer that its contract names, and a refusal writes nothing. A contract's `ensures` equates the
@@ -104,9 +121,20 @@ module _ {M : Type 1} where
   pub fetches-with-any-n : word-in-call.Statement.statement M
   fetches-with-any-n = word-in-call.Met.met
 
+  -- `container::pack`: whether words and annotations of some lengths make a container; the container in the buffer, or its refusal
+  pub fits : fit-call.Statement.statement M
+  fits = fit-call.Met.met
+
+  pub packs : pack-call.Statement.statement M
+  packs = pack-call.Met.met
+
   -- `verifier::verify`: the answer is `verdict-of` the bytes, demand 3 holds of it, and a refusal has its reason
   pub checks : check-call.Statement.statement M
   checks = check-call.Met.met
+
+  -- `infer::infer`: answer and buffer are those of the sweeps, and what is asked of a maker of annotations holds of them
+  pub infers : infer-call.Statement.statement M
+  infers = infer-call.Met.met
 
   -- `listing::write`: the buffer then begins with `listing` of the bytes
   pub lists : list-call.Statement.statement M
@@ -125,8 +153,11 @@ module _ {M : Type 1} where
   pub c-checks : vsp-check-call.Statement.statement M
   c-checks = vsp-check-call.Met.met
 
--- the numbers of the refusals are those of the rules: 1 to 7 of reading, 2 and 4 to 9 of writing, 2 of making, 10 to 13 of opening, 14 of
--- asking for a word, and of the check 2 to 7, 10 to 13 and 20 to 23
+  pub c-infers : vsp-infer-call.Statement.statement M
+  c-infers = vsp-infer-call.Met.met
+
+-- the numbers of the refusals are those of the rules: 1 to 7 of reading, 2 and 4 to 9 of writing, 2 of making, 10 to 13 of opening, 12 of
+-- packing, 14 of asking for a word, of the check 2 to 7, 10 to 13 and 20 to 23, and of the maker 2 to 7, 12 and 24
 pub read-refusals : (bs : List ℕ) (f : Refusal) → read bs ≡ refuses f → (1 ≤ f .number) × (f .number ≤ 7)
 read-refusals = reader-numbers.read-numbers
 
@@ -143,9 +174,33 @@ open-refusals = container-numbers.open-numbers
 pub fetch-refusals : (s : List ℕ) (n i : ℕ) (r : Rejection) → word-outcome s n i ≡ refuses r → r ≡ unplaced 14
 fetch-refusals = container-numbers.word-numbers
 
+pub pack-refusals : (entry : ℕ) (words annotations out : List ℕ) (r : Rejection) → pack-outcome entry words annotations out ≡ refuses r
+    → r ≡ unplaced 12
+pack-refusals = container-numbers.pack-numbers
+
+-- a container that is packed opens with the parts that were packed, and one that opens is packed again from its parts
+pub packed-opens : (entry : ℕ) (words annotations : List ℕ) → entry < 2 ^ 64 → Fitting (length words) (length annotations)
+    → open-outcome (container-bytes entry words annotations) ≡ gives (record { count = word-count (length words); entry = entry })
+packed-opens = pack-laws.packed-opens
+
+pub packed-words : (entry : ℕ) (words annotations : List ℕ) → entry < 2 ^ 64 → Fitting (length words) (length annotations)
+    → words-of (container-bytes entry words annotations) ≡ words
+packed-words = pack-laws.packed-words
+
+pub packed-annotations : (entry : ℕ) (words annotations : List ℕ) → entry < 2 ^ 64 → Fitting (length words) (length annotations)
+    → annotations-of (container-bytes entry words annotations) ≡ annotations
+packed-annotations = pack-laws.packed-annotations
+
+pub unpacked : (s : List ℕ) → T (areBytes s) → Opens s → container-bytes (entry-of s) (words-of s) (annotations-of s) ≡ s
+unpacked = pack-laws.unpacked
+
 -- an opened container has a word at each index below its count
 pub fetches-all : (s : List ℕ) → Opens s → (i : ℕ) → i < count-of s → word-outcome s (open-count s) i ≡ gives (little (eight (words-of s) i))
 fetches-all s o = word-laws.opened-word s o
+
+pub infer-refusals : (words : List ℕ) (entry : ℕ) (buffer : List ℕ) (f : Finding) → infer-outcome words entry buffer ≡ refuses f
+    → ((2 ≤ f .number) × (f .number ≤ 7)) ⊎ ((f .number ≡ 12) ⊎ (f .number ≡ 24))
+infer-refusals = infer-numbers.infer-numbers
 
 pub check-refusals : (s : List ℕ) (f : Finding) → verdict-of s ≡ refuses f
     → ((2 ≤ f .number) × (f .number ≤ 7)) ⊎ (((10 ≤ f .number) × (f .number ≤ 13)) ⊎ ((20 ≤ f .number) × (f .number ≤ 23)))
@@ -203,6 +258,37 @@ not-by-refusing-all = lazy-checks.always-no
 
 pub not-by-waving-through : (check : List ℕ → Judgement) → WavesThrough check → ¬ Demand3 check
 not-by-waving-through = lazy-checks.only-first
+
+-- ---- Item 1 of paper 02, the maker of annotations: what the sweeps propose is accepted, contains whatever is accepted, and is exact where
+-- every instruction lies on a walk; 24 exactly where nothing is accepted; a refusal leaves the buffer
+pub as-asked : Asked (record { answer = infer-outcome; after = infer-buffer })
+as-asked = inferred.inferred
+
+-- there are no more than n + 1 sweeps; `Inference::MOST_SWEEPS` is that for 2048 instructions
+pub sweeps-end : (p : Program) → p .entry < 2 ^ 64 → 0 < p .count → sweeps p ≤ suc (p .count)
+unfolding machine
+sweeps-end p small some = sweep-laws.proposed p small some .ends
+
+-- number and notes agree with the definition of the sweeps over any kind of fact
+pub sweeps-reported : (p : Program) → p .entry < 2 ^ 64 → Reports (machine p) (sweeps p)
+sweeps-reported = sweep-laws.reports
+
+pub notes-swept : (p : Program) (k j : ℕ) → j < p .count → (r : ℕ) → (Has (note p k j) r ↔ Note (machine p) k j r)
+notes-swept = sweep-laws.note-is
+
+-- it is not met by a maker that always answers 24, nor by one that proposes no registers, nor by one that leaves the last sweep out of its
+-- count, nor by one that stops after the first sweep
+pub not-by-always-24 : (m : Maker) → AlwaysNone m → ¬ Asked m
+not-by-always-24 = lazy-makers.always-none
+
+pub not-by-naming-nothing : (m : Maker) → NamesNothing m → ¬ Asked m
+not-by-naming-nothing = lazy-makers.names-nothing
+
+pub not-by-leaving-out-the-last : (m : Maker) → LeavesOutTheLast m → ¬ Asked m
+not-by-leaving-out-the-last = lazy-makers.leaves-out-the-last
+
+pub not-by-stopping-early : (m : Maker) → StopsEarly m → ¬ Asked m
+not-by-stopping-early = lazy-makers.stops-early
 
 -- ---- The listing: of a well-formed parcel a line for each word and then the verdict, else the verdict only; no digit is lost
 pub listed : (s : List ℕ) → T (areBytes s) → ListedAsAsked s (listing s)

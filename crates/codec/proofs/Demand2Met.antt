@@ -9,13 +9,13 @@ use lib.ListN.{length, getD, replicate}
 use lib.Pow.{areBytes}
 use borrow.Author.Tests.{eqb-true}
 use Rattle.bits.specs.Bytes.{little-bytes}
-use Rattle.bits.specs.Outcomes.{Outcome, gives, refuses, passes, require}
+use Rattle.bits.specs.Outcomes.{Outcome, gives, refuses, passes, require, kept-or}
 use Rattle.bits.proofs.Every.{and-both, and-l, and-r}
 use Rattle.bits.proofs.OutcomeLaws.{then-gives, required, never}
 use Rattle.record.specs.Instructions.{word-of}
 use Rattle.reader.specs.Reader.{read}
 use Rattle.record.specs.Legality.{judge-instruction}
-use Rattle.writer.specs.Writer.{write, stored, kept-or}
+use Rattle.writer.specs.Writer.{write, stored}
 use Rattle.record.specs.Answers.{refusal}
 use Rattle.codec.specs.Demand2.{Readable, LegalRecord, Given, Demand2, ReadAsAsked, WrittenAsAsked}
 use Rattle.codec.specs.Examples.{examples}

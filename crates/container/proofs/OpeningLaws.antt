@@ -145,6 +145,21 @@ pub record Framed (s : List ℕ) : Type 0 where
   pub read : version-of s ≡ version
   pub nought : zero-of s ≡ 0
 
+-- what opens has passed that
+pub framed : (s : List ℕ) {h : Header} → open-outcome s ≡ gives h → Framed s
+unfolding open-outcome
+framed s {h} o =
+    let a = then-gives _ _ h o in
+    let b = then-gives _ _ h (a .1) in
+    let c = then-gives _ _ h (b .1) in
+    let d = then-gives _ _ h (c .1) in
+    record {
+      long = leb-true header-length (length s) (required _ (unplaced 12) (a .0));
+      mark = required _ (unplaced 10) (b .0);
+      read = eqb-true (version-of s) version (required _ (unplaced 11) (c .0));
+      nought = eqb-true (zero-of s) 0 (required _ (unplaced 13) (d .0));
+    }
+
 module _ (s : List ℕ) (f : Framed s) where
   counted : (require (leb 1 (count-of s) && leb (count-of s) most-instructions) (unplaced 12)
       then require (eqb (length s) (container-length (count-of s))) (unplaced 12)

@@ -1,3 +1,4 @@
 pub mod Container
 pub mod Opening
 pub mod Words
+pub mod Packing

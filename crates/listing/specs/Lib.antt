@@ -2,3 +2,4 @@ pub mod Text
 pub mod Listing
 pub mod Asked
 pub mod Cut
+pub mod Place

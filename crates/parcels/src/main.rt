@@ -1,10 +1,13 @@
-// Opens some parcels and asks for their notes and words: a line for each answer. Words are asked for at indexes inside and outside, and with a
-// count that is made up.
+// Opens some parcels, asks for their notes and words, and packs one again: a line for each answer. Words are asked for at indexes inside and
+// outside, and with a count that is made up.
 ghost use mathlib.Core.Path.{_≡_};
 ghost use lib.ListN.{length};
+use bits::bytes::load64;
 use bits::bytes::wide;
 use container::header::Opening;
 use container::header::open;
+use container::pack::Packing;
+use container::pack::pack;
 use container::parts::annotations;
 use container::view::Fetched;
 use container::view::open_count;
@@ -39,18 +42,22 @@ fn say_opening(bytes: &[u8]) {
     text(b"\n");
 }
 
-// The bytes of the notes' part, each in two digits.
-fn say_notes(bytes: &[u8]) {
-    let part = annotations(bytes);
-    text(b"  notes ");
-    number(part.len() as u64);
+// How many bytes there are, and each in two digits.
+fn say_bytes(bytes: &[u8]) {
+    number(bytes.len() as u64);
     let mut i = 0;
-    while i < part.len() {
+    while i < bytes.len() {
         text(b" ");
-        io::print_hex(libc::STDOUT_FILENO, wide(part[i]), 2);
+        io::print_hex(libc::STDOUT_FILENO, wide(bytes[i]), 2);
         i += 1;
     }
     text(b"\n");
+}
+
+// The bytes of the notes' part.
+fn say_notes(bytes: &[u8]) {
+    text(b"  notes ");
+    say_bytes(annotations(bytes));
 }
 
 fn say_fetched(f: Fetched) {
@@ -108,6 +115,32 @@ fn makes_up(bytes: &[u8]) {
     asks_of(bytes, usize::MAX, usize::MAX);
 }
 
+// Packs a parcel into a buffer; then the buffer's bytes.
+fn packs(entry: u64, words: &[u8], notes: &[u8], out: &mut [u8]) {
+    match pack(entry, words, notes, out) {
+        Packing::Packed => text(b"packed"),
+        Packing::Refused(n) => {
+            text(b"refused ");
+            number(n as u64);
+        }
+    }
+    text(b"\n  buffer ");
+    say_bytes(out);
+}
+
+// Takes a parcel of two instructions apart and packs it again, after a part or the buffer had a wrong length.
+fn packs_again(bytes: &[u8], out: &mut [u8])
+    requires { ⌜ (length (now bytes) ≡ 48) × (length (now out) ≡ 48) ⌝ }
+{
+    let entry = load64(&bytes[8..16]);
+    let words = &bytes[16..32];
+    let notes = &bytes[32..48];
+    packs(entry, &words[..15], notes, out);
+    packs(entry, words, &notes[..8], out);
+    packs(entry, words, notes, &mut out[..47]);
+    packs(entry, words, notes, out);
+}
+
 // MOV.i32 r1, r2 and NOP with end; r2 and r40 are filled before them.
 fn good() -> [u8; 48]
     ensures { λ r. ⌜ 48 ≡ length r ⌝ }
@@ -123,6 +156,8 @@ fn main() {
     says(&parcel[..15]);
     makes_up(&parcel[..23]);
     makes_up(&parcel[..0]);
+    let mut out = [255u8; 48];
+    packs_again(&parcel, &mut out);
     parcel[5] = 1;
     says(&parcel);
 }

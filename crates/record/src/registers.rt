@@ -90,6 +90,19 @@ impl Instruction {
         }
     }
 
+    // Those that it releases, alone. `uses` is left to the check: with one caller it becomes part of the check's loop.
+    pub fn kills(self) -> u64
+        ensures { λ r. ⌜ r ≡ kills self ⌝ }
+    {
+        let n = source_count(self.row);
+        let s = self.sources;
+        let k0 = kill_set(read_set(n, 0, s.s0), s.s0);
+        let k1 = kill_set(read_set(n, 1, s.s1), s.s1);
+        let k2 = kill_set(read_set(n, 2, s.s2), s.s2);
+        let k3 = kill_set(read_set(n, 3, s.s3), s.s3);
+        k0 | k1 | k2 | k3
+    }
+
     // The register that it fully writes, if there is one.
     pub fn defines(self) -> u64
         ensures { λ r. ⌜ r ≡ defines self ⌝ }

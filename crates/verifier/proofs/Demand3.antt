@@ -37,7 +37,7 @@ word-of words i e = go (read (eight words i)) refl e
     go (refuses f) p q = never q
 
 -- what is accepted, part by part
-accepted : (s : List ℕ) → verdict-of s ≡ passes → WellFormed s × (judge-program (program-of s) ≡ passes)
+pub accepted : (s : List ℕ) → verdict-of s ≡ passes → WellFormed s × (judge-program (program-of s) ≡ passes)
 unfolding verdict-of
 accepted s e =
     let words = first (judge-word (words-of s)) (count-of s) in

@@ -2,7 +2,7 @@
 use mathlib.Core.Path.{_≡_, refl}
 use mathlib.Core.List.{List, [], _∷_}
 use mathlib.Core.Logic.{_⊎_, inl, inr}
-use Prim.Native.Nat.{ℕ, zero, suc, _<_}
+use Prim.Native.Nat.{ℕ, zero, suc, _*_, _<_}
 use native.Mathlib.Omega.{arith}
 use lib.Dec.{eqb, ltb, lit≤}
 use lib.IntN.{ℤ, pos, negsuc}
@@ -17,8 +17,8 @@ use Rattle.record.proofs.NumberedLaws.{Numbered}
 use Rattle.reader.specs.Reader.{read}
 use Rattle.reader.proofs.NumberedLaws.{read-numbers, eight-numbers}
 use Rattle.container.specs.declared.header.Header.{Header}
-use Rattle.container.specs.Container.{count-of, words-of, eight}
-use Rattle.container.specs.Opening.{Rejection, open-outcome, Opens}
+use Rattle.container.specs.Container.{word-length, count-of, words-of, eight}
+use Rattle.container.specs.Opening.{Rejection, open-outcome}
 use Rattle.container.proofs.OpeningLaws.{opened, length-words}
 use Rattle.container.proofs.NumberedLaws.{Unopened, open-numbers}
 use Rattle.verifier.specs.declared.verdict.Finding.{Finding}
@@ -89,16 +89,16 @@ program-numbers p =
     (missing-numbers 23 0 (p .annotation 0) (p .entry) (lit≤ tt, lit≤ tt))
     (first-numbers (ToldBetween 20 23) (judge-index p) (index-numbers p) (p .count))
 
--- the words of a container that opens have eight bytes, so 1 is not among their refusals
+-- whole words have eight bytes, so 1 is not among their refusals
 
-length-eight : (s : List ℕ) → Opens s → (i : ℕ) → i < count-of s → length (eight (words-of s) i) ≡ 8
-length-eight s o i l = simp (length-take, length-drop) (omega (arith, length-words s o, l))
+length-eight : (words : List ℕ) (n : ℕ) → length words ≡ word-length * n → (i : ℕ) → i < n → length (eight words i) ≡ 8
+length-eight words n h i l = simp (length-take, length-drop) (omega (arith, h, l))
 
-opened-words-numbers : (s : List ℕ) → Opens s → Refusals (ToldBetween 2 7) (first (judge-word (words-of s)) (count-of s))
-opened-words-numbers s o f e =
-    let w = first-refused (judge-word (words-of s)) (count-of s) e in
-    let bs = eight (words-of s) (w .0) in
-    reading-numbers 2 7 (w .0) (read bs) (eight-numbers bs (length-eight s o (w .0) (w .1))) f (w .2)
+pub whole-words-numbers : (words : List ℕ) (n : ℕ) → length words ≡ word-length * n → Refusals (ToldBetween 2 7) (first (judge-word words) n)
+whole-words-numbers words n h f e =
+    let w = first-refused (judge-word words) n e in
+    let bs = eight words (w .0) in
+    reading-numbers 2 7 (w .0) (read bs) (eight-numbers bs (length-eight words n h (w .0) (w .1))) f (w .2)
 
 -- the whole check
 
@@ -116,6 +116,6 @@ verdict-numbers s = go (open-outcome s) refl (open-numbers s)
         → Refusals ByTheRules (judge-opening o then first (judge-word (words-of s)) (count-of s) then judge-program (program-of s))
     go (gives h) q n =
         of-then ByTheRules (first (judge-word (words-of s)) (count-of s)) (judge-program (program-of s))
-        (weaker (λ (f : Finding) (n : ToldBetween 2 7 f). inl n) (opened-words-numbers s (opened s q)))
+        (weaker (λ (f : Finding) (n : ToldBetween 2 7 f). inl n) (whole-words-numbers (words-of s) (count-of s) (length-words s (opened s q))))
         (weaker (λ (f : Finding) (n : ToldBetween 20 23 f). inr (inr n)) (program-numbers (program-of s)))
     go (refuses r) q n = of-refuses ByTheRules (finding (r .number) (r .place) 0 no-register) (inr (inl (n r refl .0)))

@@ -3,18 +3,17 @@ use mathlib.Core.Path.{_≡_, refl}
 use mathlib.Core.Bool.{Bool, true, false, _&&_}
 use mathlib.Core.List.{List, [], _∷_, List·Memᴰ, List·Memᴰ·head}
 use mathlib.Core.Logic.{_⊎_, inl, inr, ⊎-elim}
-use Prim.Native.Nat.{ℕ, zero, suc, _+_, _*_, _^_, _<_}
+use Prim.Native.Nat.{ℕ, suc, _+_, _*_, _^_, _<_}
 use native.Mathlib.Nat.{pow-le-pow-right, lt-of-lt-of-le}
 use native.Mathlib.Omega.{arith}
 use lib.Dec.{T, ltb, lt→ltb}
 use lib.IntN.{ℤ, pos}
-use lib.ListN.{take, drop, getD, length-take}
+use lib.ListN.{drop, getD, length-take}
 use lib.Pow.{areBytes}
 use Rattle.bits.specs.Bytes.{little}
 use Rattle.bits.specs.Sets.{Has, minus}
 use Rattle.bits.specs.Outcomes.{passes}
-use Rattle.bits.proofs.Every.{and-r}
-use Rattle.bits.proofs.ByteLaws.{little-lt}
+use Rattle.bits.proofs.ByteLaws.{little-lt, part-bytes}
 use Rattle.bits.proofs.SetLaws.{has-dec, has-or, has-minus, minus-zero, zero-minus, member-below}
 use Rattle.record.specs.declared.instruction.Instruction.{Instruction}
 use Rattle.record.specs.Registers.{reads, kills, defines, ends}
@@ -107,25 +106,7 @@ unfolding machine
 needs-fact p i r h = member-below (reads (p .instruction i)) r (reads-lt (p .instruction i)) h
 
 -- an annotation of bytes is a 64-bit number
-
-and-map : (a b c : Bool) → (T b → T c) → T (a && b) → T (a && c)
-and-map true b c f t = f t
-and-map false b c f t = t
-
-take-bytes : (k : ℕ) (s : List ℕ) → T (areBytes s) → T (areBytes (take k s))
-take-bytes zero s t = tt
-take-bytes (suc k) [] t = tt
-take-bytes (suc k) (x ∷ s) t = and-map (ltb x 256) (areBytes s) (areBytes (take k s)) (take-bytes k s) t
-
-drop-bytes : (k : ℕ) (s : List ℕ) → T (areBytes s) → T (areBytes (drop k s))
-drop-bytes zero s t = t
-drop-bytes (suc k) [] t = tt
-drop-bytes (suc k) (x ∷ s) t = drop-bytes k s (and-r (ltb x 256) (areBytes s) t)
-
-part-bytes : (s : List ℕ) (start k : ℕ) → T (areBytes s) → T (areBytes (take k (drop start s)))
-part-bytes s start k t = take-bytes k (drop start s) (drop-bytes start s t)
-
-eight-lt : (s : List ℕ) (i : ℕ) → T (areBytes s) → little (eight s i) < 2 ^ 64
+pub eight-lt : (s : List ℕ) (i : ℕ) → T (areBytes s) → little (eight s i) < 2 ^ 64
 eight-lt s i t =
     lt-of-lt-of-le (little-lt (eight s i) (part-bytes s (8 * i) 8 t))
     (pow-le-pow-right {n = 256} (omega arith) {j = 8} (rw (length-take 8 (drop (8 * i) s)) (omega arith)))

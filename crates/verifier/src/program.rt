@@ -23,7 +23,7 @@ ghost use Rattle.verifier.specs.Verdict.{verdict-outcome, first, judge-w
 const ENTRY_MISSING: u8 = 23;
 
 // The word at index i, read.
-pub(crate) fn reading_at(words: &[u8], n: usize, i: usize) -> Reading
+pub fn reading_at(words: &[u8], n: usize, i: usize) -> Reading
     requires { ⌜ Worded (now words) n × (i < n) ⌝ }
     ensures { λ r. ⌜ reading r ≡ read (eight (now (words .entry)) i) ⌝ }
 {
@@ -79,12 +79,7 @@ fn judge_instructions<'a>(words: &'a [u8], annotations: &'a [u8], n: usize) -> V
 }
 
 // The verdict on n words and annotations, before which `entry` is defined. A word that does not read comes before any other refusal.
-pub(crate) fn judge_words<'a>(
-    words: &'a [u8],
-    annotations: &'a [u8],
-    n: usize,
-    entry: u64,
-) -> Verdict
+pub fn judge_words<'a>(words: &'a [u8], annotations: &'a [u8], n: usize, entry: u64) -> Verdict
     requires { ⌜ Worded (now words) n × Annotated (now annotations) n × (0 < n) ⌝ }
     ensures { λ r. ⌜ verdict-outcome r ≡ (first (judge-word (now (words .entry))) n then judge-program (program-in (now (words .entry)) (now (annotations .entry)) n entry)) ⌝ }
 {

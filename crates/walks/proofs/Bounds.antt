@@ -8,7 +8,8 @@ use native.Mathlib.Omega.{arith}
 use lib.IntN.{pos}
 use Rattle.walks.specs.Walks.{Machine, Next}
 use Rattle.walks.specs.served.Passing.{Passes, noted}
-use Rattle.walks.specs.Sweeps.{Note, Still, Reports, Told, NeedsDropped}
+use Rattle.walks.specs.Sweeps.{Note, Still, Reports, NeedsDropped}
+use Rattle.walks.specs.served.Told.{Told}
 use Rattle.walks.proofs.Descent.{count, Same, count-le, some-true, all-or, climb, bounded}
 use Rattle.walks.proofs.Choices.{Settled, both-told, one-told, not-told, if-told, flag, flag-of, flag-to, flag-falls, flag-same, each-or, each-told, first-upto}
 use Rattle.walks.proofs.SweepLaws.{falls, StillAt, still-next, needed-in, note-fact}

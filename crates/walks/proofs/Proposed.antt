@@ -5,8 +5,9 @@ use Prim.Native.Nat.{ℕ, _<_}
 use native.Mathlib.Omega.{arith}
 use Rattle.walks.specs.Walks.{Machine, Exact}
 use Rattle.walks.specs.served.Passing.{Passes, noted}
-use Rattle.walks.specs.Sweeps.{Note, Still, Told}
-use Rattle.walks.specs.Inference.{Found, Proposal}
+use Rattle.walks.specs.Sweeps.{Note, Still}
+use Rattle.walks.specs.served.Told.{Told}
+use Rattle.walks.specs.served.Inference.{Found, Proposal}
 use Rattle.walks.proofs.SweepLaws.{next-mono, still-to, contains, passes}
 use Rattle.walks.proofs.Bounds.{reports-one, at-most, at-most-one-more}
 use Rattle.walks.proofs.NopLaws.{exactly}

@@ -6,7 +6,8 @@ use Prim.Native.Nat.{ℕ, _<_}
 use lib.IntN.{pos}
 use Rattle.walks.specs.Walks.{Machine, Walk, start, step, Next, Holds, SafeAt, Safe, AllSafe, AllReached, Exact}
 use Rattle.walks.specs.served.Passing.{Passes, noted, bare}
-use Rattle.walks.specs.Sweeps.{Note, Still, Told}
+use Rattle.walks.specs.Sweeps.{Note, Still}
+use Rattle.walks.specs.served.Told.{Told}
 use Rattle.walks.proofs.WalkLaws.{supplied, held, claimed, arriving, sound, complete}
 use Rattle.walks.proofs.SweepLaws.{largest, starts, carried, note-fact}
 

@@ -7,7 +7,8 @@ use native.Mathlib.Omega.{arith}
 use lib.IntN.{pos}
 use Rattle.walks.specs.Walks.{Machine, Next}
 use Rattle.walks.specs.served.Passing.{Passes, noted}
-use Rattle.walks.specs.Sweeps.{First, Narrowed, Note, Still, Told, Sweeping}
+use Rattle.walks.specs.Sweeps.{First, Narrowed, Note, Still}
+use Rattle.walks.specs.served.Told.{Told, Sweeping}
 
 module _ {G : Type 0} (m : Machine G) where
   -- from more, more

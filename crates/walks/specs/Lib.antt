@@ -1,4 +1,3 @@
 pub mod Walks
 pub mod Sweeps
-pub mod Inference
 pub mod served

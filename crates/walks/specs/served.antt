@@ -1,1 +1,3 @@
 pub mod Passing
+pub mod Told
+pub mod Inference

@@ -6,7 +6,7 @@ use lib.Dec.{eqb}
 use lib.IntN.{ℤ, pos, negsuc}
 use lib.ListN.{length}
 use Rattle.bits.specs.Bytes.{little-bytes}
-use Rattle.bits.specs.Outcomes.{Outcome, gives, refuses, require, _then_}
+use Rattle.bits.specs.Outcomes.{Outcome, gives, refuses, require, _then_, kept-or}
 use Rattle.record.specs.Lists.{source-list, modifier-list}
 use Rattle.record.specs.Instructions.{word-of}
 use Rattle.record.specs.Legality.{judge-instruction}
@@ -49,10 +49,6 @@ write i bs =
     require (eqb (length bs) 8) (refusal 8 0)
     then judge-instruction i
     then require (is-record (read-number (word-of i)) i) (refusal 15 0)
-
-abbrev pub kept-or : Outcome Refusal (Unit {0}) → List ℕ → List ℕ → List ℕ
-kept-or (gives _) new old = new
-kept-or (refuses f) new old = old
 
 -- the buffer afterwards: the word's bytes, or on a refusal what it held
 unfoldable pub stored : Instruction → List ℕ → List ℕ

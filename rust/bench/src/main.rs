@@ -1,7 +1,8 @@
 //! Times the library against the reference on the same inputs, in turns, and prints a table.
 //!
 //! The buffers hold the inputs before the clock starts; the form that a word is read into is
-//! not cleared between words. An argument names the lister, which is timed as a whole process.
+//! not cleared between words, nor the notes between programs. An argument names the lister,
+//! which is timed as a whole process.
 
 use inputs::{Program, Rng, Shape, encode, instruction, refused_word, with_word};
 use reference::{Instruction, ROW_COUNT, ROWS, Verdict};
@@ -16,6 +17,8 @@ use std::time::{Duration, Instant};
 const PASS: usize = 8192;
 /// Timings of each side; the median counts.
 const REPEATS: usize = 501;
+/// The same for the maker of notes, whose passes are long.
+const MAKER_REPEATS: usize = 51;
 /// Runs of the lister.
 const RUNS: usize = 101;
 
@@ -41,10 +44,14 @@ fn main() -> ExitCode {
     }
     agreed &= time_read("read, legal words", &legal_words());
     agreed &= time_read("read, refused words", &refused_words());
+    for (name, program) in [("straight", Program::nops(2048)), ("branchy", branchy())] {
+        agreed &= time_infer(name, &program);
+    }
     if !agreed {
         return ExitCode::FAILURE;
     }
     println!("Both are release builds on the same inputs, timed in turns; no buffer is cleared between calls.");
+    println!("For infer an instruction's time is that of all its sweeps together.");
     match std::env::args_os().nth(1) {
         Some(lister) if Path::new(&lister).is_file() => time_lister(Path::new(&lister)),
         Some(_) => {
@@ -96,6 +103,11 @@ fn refused_words() -> Vec<[u8; 8]> {
     (0..PASS).map(|k| refused_word(&mut rng, 2 + (k % 6) as u8).0.to_le_bytes()).collect()
 }
 
+/// Accepted with the notes that are made for it.
+fn branchy() -> Program {
+    Program::safe(&mut Rng::new(4), Shape { count: 2048, branches: 30, ends: 0, registers: 32 })
+}
+
 /// The whole check on both sides; whether they agree.
 fn time_check(name: &str, parcels: &[Vec<u8>]) -> bool {
     let agree = parcels.iter().all(|bytes| match (vsp::check(bytes), reference::check(bytes)) {
@@ -113,7 +125,7 @@ fn time_check(name: &str, parcels: &[Vec<u8>]) -> bool {
             black_box(reference::check(black_box(bytes)));
         }
     };
-    report(name, agree, rattle, rust)
+    report(name, Pass::default(), agree, rattle, rust)
 }
 
 /// The word reader on both sides; whether they agree.
@@ -134,34 +146,61 @@ fn time_read(name: &str, words: &[[u8; 8]]) -> bool {
             let _ = black_box(reference::read(black_box(word)));
         }
     };
-    report(name, agree, rattle, rust)
+    report(name, Pass::default(), agree, rattle, rust)
+}
+
+/// The maker of notes on both sides, all its sweeps; whether they agree on them and on the notes.
+fn time_infer(name: &str, program: &Program) -> bool {
+    let (words, entry) = (program.word_bytes(), program.entry);
+    let (mut notes, mut other) = (vec![0; words.len()], vec![0; words.len()]);
+    let sweeps = match vsp::infer(&words, entry, &mut notes) {
+        vsp::Inference::Proposed { sweeps } => sweeps,
+        vsp::Inference::Refused { .. } => 0,
+    };
+    let agree = reference::infer(&words, entry, &mut other) == Ok(sweeps.into()) && notes == other;
+    let rattle = || {
+        black_box(vsp::raw::infer(black_box(&words), entry, black_box(&mut notes)));
+    };
+    let rust = || {
+        let _ = black_box(reference::infer(black_box(&words), entry, black_box(&mut other)));
+    };
+    let pass = Pass { instructions: program.count(), repeats: MAKER_REPEATS };
+    report(&format!("infer, {name}, {sweeps} sweeps, n = {}", program.count()), pass, agree, rattle, rust)
+}
+
+/// How many instructions a pass goes through, and how often it is timed.
+struct Pass {
+    instructions: usize,
+    repeats: usize,
+}
+
+impl Default for Pass {
+    fn default() -> Pass {
+        Pass { instructions: PASS, repeats: REPEATS }
+    }
 }
 
 /// Times both in turns and prints a line.
-fn report(name: &str, agree: bool, rattle: impl Fn(), rust: impl Fn()) -> bool {
+fn report(name: &str, pass: Pass, agree: bool, mut rattle: impl FnMut(), mut rust: impl FnMut()) -> bool {
     if !agree {
         println!("{name:<40}the two sides differ");
         return false;
     }
     let (mut first, mut second) = (Vec::new(), Vec::new());
-    for _ in 0..REPEATS {
-        first.push(time(&rattle));
-        second.push(time(&rust));
+    for _ in 0..pass.repeats {
+        first.push(time(&mut rattle));
+        second.push(time(&mut rust));
     }
+    let nanoseconds = |times| median(times).as_nanos() as f64 / pass.instructions as f64;
     let (rattle, rust) = (nanoseconds(first), nanoseconds(second));
     println!("{name:<40}{rattle:>12.2}{rust:>12.2}{:>9.2}", rattle / rust);
     true
 }
 
-fn time(pass: impl Fn()) -> Duration {
+fn time(pass: &mut impl FnMut()) -> Duration {
     let start = Instant::now();
     pass();
     start.elapsed()
-}
-
-/// The median, for one instruction.
-fn nanoseconds(times: Vec<Duration>) -> f64 {
-    median(times).as_nanos() as f64 / PASS as f64
 }
 
 fn median(mut times: Vec<Duration>) -> Duration {

@@ -7,8 +7,10 @@ mod instruction;
 mod parcel;
 mod program;
 mod rng;
+mod tiny;
 
 pub use instruction::{BRANCH, assigned, encode, instruction, misfit, pack, refused_word, source};
 pub use parcel::{parcel, with_word};
 pub use program::{Program, Shape};
 pub use rng::Rng;
+pub use tiny::{all_notes, tiny_programs, union_of_accepted};

@@ -1,7 +1,7 @@
 use crate::{BRANCH, Rng, encode, instruction, parcel, source};
 use reference::{Instruction, ROW_COUNT, ROWS};
 
-const END: u8 = 15;
+pub(crate) const END: u8 = 15;
 
 /// What a random program looks like.
 #[derive(Clone, Copy, Debug)]
@@ -46,12 +46,32 @@ impl Program {
         program
     }
 
+    /// NOPs, only the last with `end`, and an empty entry set.
+    pub fn nops(count: usize) -> Program {
+        let mut instructions = vec![Instruction::default(); count];
+        instructions[count - 1].flow = END;
+        Program { entry: 0, instructions }
+    }
+
+    /// NOPs, then a BRANCHZ back to the first that releases the one register of the entry set.
+    pub fn releasing_loop(count: usize, register: u8) -> Program {
+        let mut instructions = vec![Instruction::default(); count];
+        let sources = [64 + register, 0, 0, 0];
+        instructions[count - 1] = Instruction { row: BRANCH, sources, offset: -(count as i32), ..Default::default() };
+        Program { entry: 1 << register, instructions }
+    }
+
     pub fn count(&self) -> usize {
         self.instructions.len()
     }
 
     pub fn words(&self) -> Vec<u64> {
         self.instructions.iter().map(encode).collect()
+    }
+
+    /// The words as they stand in a parcel.
+    pub fn word_bytes(&self) -> Vec<u8> {
+        self.instructions.iter().flat_map(|instruction| encode(instruction).to_le_bytes()).collect()
     }
 
     /// The registers that an instruction reads.
@@ -104,6 +124,33 @@ impl Program {
             }
         }
         notes
+    }
+
+    /// The maker's sweeps, note by note: each is narrowed, all from the notes of the sweep
+    /// before, to what each predecessor leaves held. The notes that come out, which are the
+    /// exact ones, and the number of sweeps.
+    pub fn sweeps(&self) -> (Vec<u64>, u32) {
+        let mut predecessors = vec![Vec::new(); self.count()];
+        for index in 0..self.count() {
+            for successor in self.successors(index) {
+                if let Some(list) = predecessors.get_mut(successor as usize) {
+                    list.push(index);
+                }
+            }
+        }
+        let mut notes = vec![u64::MAX; self.count()];
+        notes[0] = self.entry;
+        let mut sweeps = 0;
+        loop {
+            let left = |from: &usize| self.after(*from, notes[*from]);
+            let narrow = |(note, from): (&u64, &Vec<usize>)| from.iter().map(left).fold(*note, |set, held| set & held);
+            let next: Vec<u64> = notes.iter().zip(&predecessors).map(narrow).collect();
+            sweeps += 1;
+            if next == notes {
+                return (notes, sweeps);
+            }
+            notes = next;
+        }
     }
 
     /// Notes below the exact ones that are accepted as well: what each instruction

@@ -21,12 +21,12 @@ pub enum Verdict {
 }
 
 /// What an instruction does to the registers, as sets, and where control goes after it.
-struct Effect {
-    reads: u64,
-    releases: u64,
-    fills: u64,
-    ends: bool,
-    branch: Option<i32>,
+pub(crate) struct Effect {
+    pub reads: u64,
+    pub releases: u64,
+    pub fills: u64,
+    pub ends: bool,
+    pub branch: Option<i32>,
 }
 
 /// What a source does, by its byte.
@@ -42,22 +42,27 @@ static FILLS: [u64; 256] = fills();
 
 /// Opens the parcel, reads its words and checks its notes.
 pub fn check(bytes: &[u8]) -> Verdict {
-    let parcel = match Parcel::open(bytes) {
-        Ok(parcel) => parcel,
-        Err(refusal) => return refused(refusal, 0, 0),
-    };
-    let entry = check_entry(&parcel);
+    match Parcel::open(bytes) {
+        Ok(parcel) => check_opened(&parcel),
+        Err(refusal) => refused(refusal, 0, 0),
+    }
+}
+
+/// The check of what a parcel holds.
+#[inline]
+pub(crate) fn check_opened(parcel: &Parcel) -> Verdict {
+    let entry = check_entry(parcel);
     if entry != Verdict::Accepted {
-        return unreadable_from(&parcel, 0).unwrap_or(entry);
+        return unreadable_from(parcel, 0).unwrap_or(entry);
     }
     for (index, word) in parcel.words().enumerate() {
         let layout = match validate(word) {
             Ok(layout) => layout,
             Err(refusal) => return refused(refusal, index, 0),
         };
-        let verdict = check_instruction(&parcel, index, &effect(word, layout));
+        let verdict = check_instruction(parcel, index, &effect(word, layout));
         if verdict != Verdict::Accepted {
-            return unreadable_from(&parcel, index + 1).unwrap_or(verdict);
+            return unreadable_from(parcel, index + 1).unwrap_or(verdict);
         }
     }
     Verdict::Accepted
@@ -122,7 +127,7 @@ fn check_successor(parcel: &Parcel, index: usize, successor: i64, after: u64) ->
 
 /// The effect of a word that reads with this layout.
 #[inline]
-fn effect(word: u64, layout: &Layout) -> Effect {
+pub(crate) fn effect(word: u64, layout: &Layout) -> Effect {
     // An absent source counts as constant 0, byte 192, which is no register.
     let sources = word as u32 & layout.sources | 0xC0C0_C0C0 & !layout.sources;
     let [a, b, c, d] = sources.to_le_bytes().map(|byte| USES[byte as usize]);

@@ -1,13 +1,15 @@
-//! Paper 01 in plain Rust: the word reader and writer, the parcel, the check.
+//! Paper 01 in plain Rust: the word reader and writer, the parcel, the check; and paper 02's
+//! maker of notes.
 //!
-//! Written from the paper alone, with tables of its own, so that it can stand beside the
+//! Written from the papers alone, with tables of its own, so that it can stand beside the
 //! verified library in differential tests and as a baseline for its speed. Nothing here
-//! allocates.
+//! allocates but the maker.
 //!
 //! What the paper calls a record is an [`Instruction`] here.
 
 mod check;
 mod codec;
+mod infer;
 mod layout;
 mod parcel;
 mod refusal;
@@ -15,6 +17,7 @@ mod rows;
 
 pub use check::{Verdict, check};
 pub use codec::{Instruction, fresh, read, write};
+pub use infer::{Fault, Narrowed, infer, narrow};
 pub use parcel::{HEADER, MAX_COUNT, Parcel};
 pub use refusal::Refusal;
 pub use rows::{MODIFIER_BITS, MODIFIERS, Modifier, ROW_COUNT, ROWS, Row, Secondary};

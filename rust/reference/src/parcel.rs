@@ -41,6 +41,11 @@ impl<'a> Parcel<'a> {
         Ok(Parcel { entry: u64::from_le_bytes([e0, e1, e2, e3, e4, e5, e6, e7]), words, notes })
     }
 
+    /// What a parcel with this entry set, these words and as many notes opens as.
+    pub(crate) fn from_parts(entry: u64, words: &'a [[u8; 8]], notes: &'a [[u8; 8]]) -> Self {
+        Parcel { entry, words, notes }
+    }
+
     /// How many instructions there are, 1 to 2048.
     #[inline]
     pub fn count(&self) -> usize {

@@ -21,7 +21,8 @@ pub enum Refusal {
     FieldRange,
     Mark,
     Version,
-    /// Fewer than 16 bytes, or a wrong count or length.
+    /// Fewer than 16 bytes, or a wrong count or length; the maker: words or notes of a wrong
+    /// length.
     Size,
     /// Byte 5 of the header isn't 0.
     ReservedByte,
@@ -35,6 +36,8 @@ pub enum Refusal {
     UnheldAfter,
     /// The first note names a register that the entry set doesn't have.
     UnheldAtEntry,
+    /// The check accepts no notes with these words and this entry set.
+    NoNotes,
 }
 
 impl Refusal {
@@ -59,6 +62,7 @@ impl Refusal {
             Refusal::LeavesProgram => 21,
             Refusal::UnheldAfter => 22,
             Refusal::UnheldAtEntry => 23,
+            Refusal::NoNotes => 24,
         }
     }
 

@@ -1,6 +1,8 @@
 //! The paper's checked examples, and the reference's tables as wholes.
 
-use reference::{Instruction, MODIFIER_BITS, Parcel, ROW_COUNT, ROWS, Refusal, Verdict, check, fresh, read, write};
+use reference::{
+    Fault, Instruction, MODIFIER_BITS, Parcel, ROW_COUNT, ROWS, Refusal, Verdict, check, fresh, infer, read, write,
+};
 
 fn read_word(word: u64) -> Result<Instruction, Refusal> {
     read(&word.to_le_bytes())
@@ -311,6 +313,54 @@ fn verdicts() {
     }
 }
 
+/// Worked out by hand, sweep by sweep.
+#[test]
+fn proposals() {
+    const R1: u64 = 1 << 1;
+    const R2: u64 = 1 << 2;
+    const R3: u64 = 1 << 3;
+    const R4: u64 = 1 << 4;
+    const ALL: u64 = u64::MAX;
+    // MOV r1, constant 0, full and low half; BRANCHZ on r1, released; NOP.
+    let fill = A & !0xFF | 0xC0;
+    let half = fill & !(2 << 46);
+    let release = |offset| branch(offset) & !0xFF | 0x41;
+    let nop = B & !(15 << 59);
+    let none = Fault { refusal: Refusal::NoNotes, index: 0, register: 64 };
+    // Notes and sweeps.
+    type Answer<'a> = Result<(&'a [u64], u32), Fault>;
+    let examples: [(u64, &[u64], Answer); 14] = [
+        (R2 | R3, &[A | B], Ok((&[R2 | R3], 1))),
+        (R3, &[A | B], Err(none)),
+        (R2, &[A], Err(none)),
+        (R2, &[A, B], Ok((&[R2, R1 | R2], 2))),
+        (R4, &[C, B], Ok((&[R4, R3], 2))),
+        (R4, &[C, branch(-2), B], Err(none)),
+        (R4, &[C, branch(-1), B], Ok((&[R4, R3, R3], 3))),
+        (R2, &[half, B], Ok((&[R2, R2], 2))),
+        // Note 0 is narrowed too: the loop comes back without r1.
+        (R1 | R2, &[fill, release(-2), B], Ok((&[R2, R1 | R2, R2], 3))),
+        // Nothing arrives at the last one.
+        (0, &[B, B], Ok((&[0, ALL], 1))),
+        // The third can't be reached, but goes on to the second, and takes r1 from its note.
+        (R1 | R2, &[nop, B, release(-2), B], Ok((&[R1 | R2, R2, ALL, ALL & !R1], 2))),
+        // A loop that nothing reaches keeps what it doesn't release.
+        (0, &[B, fill, release(-2), B], Ok((&[0, ALL & !R1, ALL, ALL & !R1], 2))),
+        // Unreached ones that leave the program, or read what one before has released.
+        (0, &[B, nop], Err(none)),
+        (0, &[B, release(0), release(0), B], Err(none)),
+    ];
+    for (entry, words, expected) in examples {
+        let bytes: Vec<u8> = words.iter().flat_map(|word| word.to_le_bytes()).collect();
+        let mut notes = vec![0xA5; bytes.len()];
+        let answer = infer(&bytes, entry, &mut notes);
+        assert_eq!(answer, expected.map(|(_, sweeps)| sweeps), "{words:016X?}");
+        let expected = expected
+            .map_or(vec![0xA5; bytes.len()], |(notes, _)| notes.iter().flat_map(|note| note.to_le_bytes()).collect());
+        assert_eq!(notes, expected, "{words:016X?}");
+    }
+}
+
 #[test]
 fn numbers_and_places() {
     let refusals = [
@@ -332,6 +382,7 @@ fn numbers_and_places() {
         (Refusal::LeavesProgram, 21, 0),
         (Refusal::UnheldAfter, 22, 0),
         (Refusal::UnheldAtEntry, 23, 0),
+        (Refusal::NoNotes, 24, 0),
     ];
     for (refusal, number, place) in refusals {
         assert_eq!((refusal.number(), refusal.place()), (number, place), "{refusal:?}");

@@ -2,7 +2,7 @@
 #![allow(dead_code)]
 
 use inputs::Rng;
-use reference::{Instruction, Refusal, Verdict};
+use reference::{Fault, Instruction, Refusal, Verdict};
 use vsp::{FORM, Form, raw};
 
 /// Room on both sides of a lent buffer, to see writes that go astray.
@@ -51,6 +51,14 @@ pub fn verdict_code(verdict: Verdict) -> u64 {
         Verdict::Refused { refusal, index, register } => {
             u64::from(code(refusal)) | u64::from(index) << 16 | u64::from(register) << 32
         }
+    }
+}
+
+/// 2^16 sweeps, or number + 2^8 place + 2^16 index + 2^32 register.
+pub fn inference_code(answer: Result<u32, Fault>) -> u64 {
+    match answer {
+        Ok(sweeps) => u64::from(sweeps) << 16,
+        Err(Fault { refusal, index, register }) => verdict_code(Verdict::Refused { refusal, index, register }),
     }
 }
 
@@ -195,6 +203,40 @@ pub fn compare_check(parcel: &[u8]) -> u64 {
 pub fn compare_check_as(parcel: &[u8], verdict: Verdict) -> u64 {
     assert_eq!(reference::check(parcel), verdict, "the reference on {}", hex(parcel));
     compare_check(parcel)
+}
+
+/// Makes notes with both, into a buffer of this length, and checks the parcel with them; gives
+/// back the code.
+pub fn compare_infer(rng: &mut Rng, words: &[u8], entry: u64, length: usize) -> u64 {
+    let (mut bytes, part) = memory(rng, length);
+    let (mut after, mut safe) = (bytes.clone(), bytes.clone());
+    let answer = reference::infer(words, entry, &mut after[part.clone()]);
+    if answer.is_err() {
+        assert_eq!(after, bytes, "the reference's buffer after {}", hex(words));
+    }
+    let expected = inference_code(answer);
+    let answer = raw::infer(words, entry, &mut bytes[part.clone()]);
+    assert_eq!(answer, expected, "notes for {entry:X}, {}", hex(words));
+    assert_eq!(bytes, after, "the buffer of {length} bytes after {entry:X}, {}", hex(words));
+    match vsp::infer(words, entry, &mut safe[part.clone()]) {
+        vsp::Inference::Proposed { sweeps } => {
+            assert_eq!(u64::from(sweeps) << 16, expected, "notes for {entry:X}, {}", hex(words));
+            let parcel = put_together(entry, words, &safe[part]);
+            assert_eq!(vsp::check(&parcel), vsp::Verdict::Accepted, "checking {}", hex(&parcel));
+        }
+        vsp::Inference::Refused { number, place, index, register } => {
+            let code = u64::from(number) | u64::from(place) << 8 | u64::from(index) << 16 | u64::from(register) << 32;
+            assert_eq!(code, expected, "notes for {entry:X}, {}", hex(words));
+        }
+    }
+    assert_eq!(safe, after, "the buffer of {length} bytes after {entry:X}, {}", hex(words));
+    answer
+}
+
+/// The parcel with these words and notes.
+fn put_together(entry: u64, words: &[u8], notes: &[u8]) -> Vec<u8> {
+    let count = (words.len() / 8) as u16;
+    [b"VSP\x01\0\0", &count.to_le_bytes()[..], &entry.to_le_bytes(), words, notes].concat()
 }
 
 /// Upper-case digits without spaces.

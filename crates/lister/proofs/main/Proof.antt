@@ -2,29 +2,29 @@ use mathlib.Core.Path.{ap, sym}
 use native.Mathlib.Omega.{arith}
 use lib.ListN.{length-take}
 use lib.Seq.{length-take-le}
-use Rattle.lister.specs.declared.Input.the-variants.{Bytes}
-use Rattle.lister.proofs.InputLaws.{within}
+use Rattle.input.specs.declared.Input.the-variants.{Bytes}
+use Rattle.input.proofs.InputLaws.{within}
 use borrow.Author.Needs.{needs}
 use Rattle.lister.proofs.main.Statement.{statement}
 use Rattle.lister.proofs.main.Tie as tie
 
-slice-aggregate-fill : tie.Need-slice-aggregate-fill
-slice-aggregate-fill c = search needs
+slice-aggregate-read-part : tie.Need-slice-aggregate-read-part
+slice-aggregate-read-part c = search needs
 
-fill-requires : tie.Need-fill-requires
-fill-requires c κs = search needs
+read-part-requires : tie.Need-read-part-requires
+read-part-requires c κs = search needs
 
 enum-known-input : tie.Need-enum-known-input
 enum-known-input c = search needs
 
 array-share-prefix-buffer : tie.Need-array-share-prefix-buffer
-array-share-prefix-buffer c = let w = within (c .before .before .before .before .fill .ensures) (c .before .input .given .1) in omega arith
+array-share-prefix-buffer c = let w = within (c .before .before .before .before .read-part .ensures) (c .before .input .given .1) in omega arith
 
 slice-aggregate-report : tie.Need-slice-aggregate-report
-slice-aggregate-report c = let w = within (c .before .before .before .before .before .fill .ensures) (c .before .before .input .given .1) in simp length-take (omega arith)
+slice-aggregate-report c = let w = within (c .before .before .before .before .before .read-part .ensures) (c .before .before .input .given .1) in simp length-take (omega arith)
 
 report-requires : tie.Need-report-requires
-report-requires c κs = let w = within (c .before .before .before .before .before .fill .ensures) (c .before .before .input .given .1) in ap Bytes (sym (length-take-le _ _ (omega arith)))
+report-requires c κs = let w = within (c .before .before .before .before .before .read-part .ensures) (c .before .before .input .given .1) in ap Bytes (sym (length-take-le _ _ (omega arith)))
 
 enum-told : tie.Need-enum-told
 enum-told c = search needs
@@ -45,8 +45,8 @@ pub main-spec : {M : Type 1} → statement M
 main-spec =
     tie.close
     (tie.spec
-    slice-aggregate-fill
-    fill-requires
+    slice-aggregate-read-part
+    read-part-requires
     enum-known-input
     array-share-prefix-buffer
     slice-aggregate-report

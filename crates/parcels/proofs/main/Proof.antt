@@ -55,6 +55,15 @@ slice-aggregate-makes-up-3 c = search needs
 makes-up-requires-3 : tie.Need-makes-up-requires-3
 makes-up-requires-3 c κs = search needs
 
+slice-aggregate-packs-again : tie.Need-slice-aggregate-packs-again
+slice-aggregate-packs-again c = search needs
+
+slice-aggregate-packs-again-2 : tie.Need-slice-aggregate-packs-again-2
+slice-aggregate-packs-again-2 c = search needs
+
+packs-again-requires : tie.Need-packs-again-requires
+packs-again-requires c κs = search needs
+
 array-write-parcel : tie.Need-array-write-parcel
 array-write-parcel c = search needs
 
@@ -88,6 +97,9 @@ main-spec =
     array-share-prefix-parcel-4
     slice-aggregate-makes-up-3
     makes-up-requires-3
+    slice-aggregate-packs-again
+    slice-aggregate-packs-again-2
+    packs-again-requires
     array-write-parcel
     slice-aggregate-says-4
     says-requires-4

@@ -1,0 +1,9 @@
+pub mod ByteLaws
+pub mod PlanLaws
+pub mod SweepLaws
+pub mod LoopLaws
+pub mod ProposeLaws
+pub mod AskedLaws
+pub mod InferLaws
+pub mod NumberedLaws
+pub mod LazyMakers

@@ -1,0 +1,5 @@
+pub mod Sweeps
+pub mod Inference
+pub mod Asked
+pub mod Lazy
+pub mod served
