@@ -20,7 +20,8 @@
  *    5  no half of the destination is written
  *    6  a modifier has an illegal value; place is the modifier's lowest bit, and of several
  *       such places the lowest
- *    7  a source is a reserved constant; place is the source's index, and of several the lowest
+ *    7  a source is a word of a reserved constant; place is the source's index, and of several
+ *       the lowest
  *    8  the room to write a word to isn't 8 bytes long
  *    9  a form with a value that its row has no room for in the word, with an offset beyond
  *       its limits, with other than 0 where its row has nothing, or with padding other than 0
@@ -43,7 +44,10 @@
  *    2       flow, 0 to 15
  *    3       register of the destination, 0 to 63
  *    4       half mask of the destination: 1 low, 2 high, 3 full
- *    5-8     sources 0 to 3, each as its byte in the word
+ *    5-8     sources 0 to 3, each as its byte in the word: 0-63 a register; 64-127 a register
+ *            that is released; 128-191 a uniform; 192-223 one of 32 fixed numbers; from 224 on
+ *            a special constant of the page, of value i its low word at 224 + 2i and its high
+ *            word at 225 + 2i
  *    9-22    modifiers, by their lowest bit in the word; which of them a row has, and what
  *            values are legal, is the instruction table's to say (crates/rows/specs/Rows.antt):
  *       9      8   NaN mode

@@ -24,7 +24,8 @@ commas separate. Numbers are decimal. The word's bits are those of paper 01.
     r4        a register, r0 to r63; as a destination all of it, with .low or .high one half
     r4^       a source: the register's last use, after which it counts as empty
     u69       a source: uniform 69 of u0 to u255 (a number that the driver sets); uniforms in one instruction are of the same page of 64
-    c5        a source: entry 5 of the table of constants, c0 to c63
+    c5        a source: entry 5 of the table of constants, c0 to c63; from c32 on two entries are a special constant's low and high word,
+              c36 and c37 those of value 2, which is warp_id on page 0
 
 The clauses, each given once at most:
 

@@ -27,8 +27,8 @@ parcels = {
     'word-6-bit-8': unreadable(word(row_number('FLUSH.f32'), fields={8: 3})),
     'word-6-bit-37': unreadable(word(row_number('BRANCHZ'), fields={37: 5})),
     'word-7-source-0': unreadable(0x0091C100000000E0),
-    'word-7-source-1': unreadable(word(row_number('FADD.f32'), sources=(1, 255))),
-    'word-7-source-3': unreadable(word(row_number('CSEL.f32'), sources=(0, 1, 2, 240))),
+    'word-7-source-1': unreadable(word(row_number('FADD.f32'), sources=(1, 224))),
+    'word-7-source-3': unreadable(word(row_number('CSEL.f32'), sources=(0, 1, 2, 225))),
     'word-7-first': parcel([0x0091C100000000E0], [[]], []),
     # 12: too short, before all else
     'short-1': b'V',

@@ -17,7 +17,7 @@ loaded = importlib.util.spec_from_file_location('samples_make', program)
 module = importlib.util.module_from_spec(loaded)
 loaded.loader.exec_module(module)
 
-# Paper 01's examples A to L and the two after them, and what else a source can say, worked out from the frame.
+# Paper 01's examples A to L, L as paper 02 mends it, and the two after them, and what else a source can say, worked out from the frame.
 WORDS = [
     ('MOV.i32 r1, r2', 0x0091C10000000002),
     ('NOP end', 0x7800000000000000),
@@ -46,6 +46,8 @@ WORDS = [
     ('MUX.i32 r0, r1, r2, r3 m32=0', 0x00B8C00000030201),
     ('DISCARD.f32 r1 ,r2 m32=3 m39=1', 0x0020008300000201),
     ('BRANCHZ r0 to 0026 m37=7 m36=1 end', 0x781F00F7FFFFFF00),
+    ('MOV.i32 r1, c36', 0x0091C100000000E4),
+    ('MOV.i32 r1, c37', 0x0091C100000000E5),
 ]
 
 # A line of code, with its bar and note, and how the sentence on it begins.

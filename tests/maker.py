@@ -78,7 +78,7 @@ cases = {
     'word-6-bit-32': ([NOP, 0x00F0C00600020100, B], [3], (6, 32, 1)),
     'word-6-bit-8': ([NOP, word(row_number('FLUSH.f32'), fields={8: 3}), B], [3], (6, 8, 1)),
     'word-7-source-0': ([0x0091C100000000E0], [], (7, 0, 0)),
-    'word-7-source-3': ([NOP, word(row_number('CSEL.f32'), sources=(0, 1, 2, 240)), B], [3], (7, 3, 1)),
+    'word-7-source-3': ([NOP, word(row_number('CSEL.f32'), sources=(0, 1, 2, 225)), B], [3], (7, 3, 1)),
     'a-parcel': (parcel([B], [[]], []), [], (2, 0, 0)),
     'begins-as-a-parcel': (b'VSP', [], LENGTH),
     'two-words': ([A, 0x0091C100000000E0, 1 << 63], [], (7, 0, 1)),

@@ -1,4 +1,4 @@
-"""Paper 01, and Item 1 of paper 02, in plain Python, written from the papers and source document 002 alone.
+"""Paper 01, and Items 1 and 2 of paper 02, in plain Python, written from the papers and source document 002 alone.
 
 It is the second opinion from which the expected outputs of the tests are made; it shares no table with the Rattle code."""
 
@@ -124,17 +124,49 @@ def bits(w, low, width):
     return w >> low & (1 << width) - 1
 
 
-SPECIALS = {
-    0: {2, 4, 5, 6, 8, 9, 10, 11, 12, 13, 14, 15},
-    1: {1, 3, 7},
-    2: set(),
-    3: {1, 3, 15},
-}
+# Source document 002's "FAU special page" enumerations; None is a reserved value, and page 2 has none.
+SPECIALS = [
+    [None, None, 'warp_id', None, 'framebuffer_size', 'atest_datum', 'sample', None] + [f'blend_descriptor_{i}' for i in range(8)],
+    [None, 'thread_local_pointer', None, 'workgroup_local_pointer', None, None, None, 'resource_table_pointer'] + 8 * [None],
+    [],
+    [None, 'lane_id', None, 'core_id'] + 11 * [None] + ['program_counter'],
+]
+
+
+def special(page, entry):
+    """Which word of which special constant stands at an entry from 32 on (paper 02, Item 2), or None where it is refused."""
+    for i, name in enumerate(SPECIALS[page]):
+        if name is not None and entry == 32 + 2 * i:
+            return f'{name}, low word'
+        if name is not None and entry == 33 + 2 * i:
+            return f'{name}, high word'
+    return None
+
+
+# Source document 002's "Immediates".
+IMMEDIATES = """
+    00000000 FFFFFFFF 7FFFFFFF FAFCFDFE 01000000 80002000 70605030 C0B0A090
+    03020100 07060504 0B0A0908 0F0E0D0C 13121110 17161514 1B1A1918 1F1E1D1C
+    3F800000 3DCCCCCD 3EA2F983 3F317218 40490FDB 00000000 477FFF00 5C005BF8
+    2E660000 34000000 38000000 3C000000 40000000 44000000 48000000 42480000
+""".split()
+
+
+def meaning(page, byte):
+    """What a source byte means, in words."""
+    if byte < 64:
+        return f'r{byte}'
+    if byte < 128:
+        return f'r{byte - 64} released'
+    if byte < 192:
+        return f'uniform {byte - 128 + 64 * page}'
+    if byte < 224:
+        return f'immediate {IMMEDIATES[byte - 192].lower()}'
+    return special(page, byte - 192) or 'no source'
 
 
 def source_legal(page, byte):
-    entry = byte - 192
-    return entry < 32 or entry - 32 in SPECIALS[page]
+    return meaning(page, byte) != 'no source'
 
 
 def fits(row, w):

@@ -9,7 +9,7 @@ from paper01 import infer, listing
 
 folder = os.path.join(os.path.dirname(os.path.abspath(__file__)), '..', 'samples')
 verdicts = {'approved': 'ACCEPTED', 'unfilled': 'REFUSED 20 0003 05', 'lying': 'REFUSED 22 0002 05', 'stray': 'REFUSED 03 0002 64', 'loop': 'ACCEPTED',
-            'trusting': 'ACCEPTED', 'inferred': 'ACCEPTED'}
+            'trusting': 'ACCEPTED', 'inferred': 'ACCEPTED', 'special': 'ACCEPTED'}
 # The entry set, and what the text says. Where notes are made, the parcel is the sample's own.
 noted = {'approved': ([0, 1], '5 sweeps'), 'inferred': ([0, 1], '6 sweeps'), 'unfilled': ([0, 1], '`REFUSED 24 0000 64`')}
 

@@ -1,5 +1,5 @@
 """What the program vectors must print, worked out from the paper (paper01.py)."""
-from paper01 import ROWS, read, word, row_number
+from paper01 import ROWS, meaning, read, word, row_number
 
 
 def answer(result):
@@ -22,8 +22,17 @@ print('write offset 67108864: refused 9 0, buffer kept')
 for offset in (67108863, -67108864):
     print(f'write offset {offset}: {word(row_number("BRANCHZ"), offset=offset):016x}')
 print('write offset -67108865: refused 9 0, buffer kept')
-for w in (0xD8A40000300002FF, 0x58A40000300002FF, 0x00A40000300002FF, 0x00A4C000300002FF, 0x00A4C000000002FF, 0x00A4C00000000201):
+for w in (0xD8A40000300002E0, 0x58A40000300002E0, 0x00A40000300002E0, 0x00A4C000300002E0, 0x00A4C000000002E0, 0x00A4C00000000201):
     reads(w)
+for page in range(4):
+    for entry in range(32, 64):
+        result = read(word(row_number('MOV.i32'), page=page, register=1, sources=(192 + entry,)).to_bytes(8, 'little'))
+        print(f'page {page}, entry {entry}: {answer(result) if result[0] == "refused" else "read"}, {meaning(page, 192 + entry)}')
+for page in (0, 3):
+    for byte in (0, 63, 64, 127, 128, 191):
+        print(f'page {page}, byte {byte}: {meaning(page, byte)}')
+for byte in range(192, 224):
+    print(f'page 2, byte {byte}: {meaning(2, byte)}')
 for k, row in enumerate(ROWS):
     w = word(k)
     assert read(w.to_bytes(8, 'little')) == ('read', k)

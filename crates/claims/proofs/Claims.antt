@@ -10,6 +10,9 @@ use lib.Pow.{areBytes}
 use Rattle.bits.specs.Outcomes.{Outcome, gives, refuses, passes}
 use Rattle.bits.specs.Sets.{Has}
 use Rattle.rows.specs.Rows.{row-count}
+use Rattle.rows.specs.Sources.{meaning, Paired}
+use Rattle.rows.proofs.sources.meaning as meaning-call
+use Rattle.rows.proofs.SourceLaws as source-laws
 use Rattle.record.specs.declared.answer.Refusal.{Refusal}
 use Rattle.record.specs.declared.instruction.Instruction.{Instruction}
 use Rattle.record.specs.Defaults.{fresh, default-instruction}
@@ -91,6 +94,10 @@ module _ {M : Type 1} where
   -- writing holds of them
   pub writes : write-call.Statement.statement M
   writes = write-call.Met.met
+
+  -- `rows::sources::meaning`: the answer stands for `meaning` of the page and the source byte
+  pub means : meaning-call.Statement.statement M
+  means = meaning-call.Met.met
 
   -- `Instruction::fresh`: the answer is `fresh` of the row number
   pub makes : fresh-call.Statement.statement M
@@ -289,6 +296,11 @@ not-by-leaving-out-the-last = lazy-makers.leaves-out-the-last
 
 pub not-by-stopping-early : (m : Maker) → StopsEarly m → ¬ Asked m
 not-by-stopping-early = lazy-makers.stops-early
+
+-- ---- Item 2 of paper 02: value i of a page's enumeration has its low word at entry 32 + 2i and its high word at 33 + 2i; only words of
+-- reserved values are refused, and on page 2 all of them. Demand 2 above is over this rule.
+pub special-pairs : Paired meaning
+special-pairs = source-laws.paired
 
 -- ---- The listing: of a well-formed parcel a line for each word and then the verdict, else the verdict only; no digit is lost
 pub listed : (s : List ℕ) → T (areBytes s) → ListedAsAsked s (listing s)

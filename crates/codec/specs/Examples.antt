@@ -1,4 +1,5 @@
--- Examples A to L (01, Checked examples): what each word reads as, what its sources mean, and that writing gives the word back.
+-- Examples A to L (01, Checked examples; L as 02, Item 2, mends it): what each word reads as, what its sources mean, and that writing gives the
+-- word back.
 use mathlib.Core.Path.{_≡_}
 use mathlib.Core.List.{List, [], _∷_, _++_, map}
 use Prim.Native.Nat.{ℕ}
@@ -7,7 +8,7 @@ use lib.ListN.{take, replicate}
 use Rattle.bits.specs.Bytes.{little-bytes}
 use Rattle.bits.specs.Outcomes.{Outcome, gives, refuses}
 use Rattle.rows.specs.Rows.{row-of}
-use Rattle.rows.specs.Sources.{Meaning, meaning, register-read, register-released, uniform, immediate, special, warp-id}
+use Rattle.rows.specs.Sources.{Meaning, meaning, register-read, register-released, uniform, immediate, special, warp-id, low-word, high-word}
 use Rattle.record.specs.Lists.{source-list, sources-of, modifiers-of}
 use Rattle.record.specs.Answers.{refusal}
 use Rattle.reader.specs.Reader.{read}
@@ -65,9 +66,11 @@ examples =
     ∷ refused-with 0x0091C10000010002 2 0
     ∷ refused-with 0x5891C10000000002 4 0
     ∷ refused-with 0x00F0C00600020100 6 32
-    -- L: 7; with byte E2 it is warp_id
+    -- L: 7; with byte E2 too, and with E4 and E5 it is warp_id's low and high word (02, Item 2)
     ∷ refused-with 0x0091C100000000E0 7 0
-    ∷ reads-as 0x0091C100000000E2 (instruction 30 0 0 1 3 0xE2 0 (modifiers 0 0 0) (pos 0)) (special warp-id ∷ [])
+    ∷ refused-with 0x0091C100000000E2 7 0
+    ∷ reads-as 0x0091C100000000E4 (instruction 30 0 0 1 3 0xE4 0 (modifiers 0 0 0) (pos 0)) (special warp-id low-word ∷ [])
+    ∷ reads-as 0x0091C100000000E5 (instruction 30 0 0 1 3 0xE5 0 (modifiers 0 0 0) (pos 0)) (special warp-id high-word ∷ [])
     ∷ []
 
 -- what the sources of the record read mean

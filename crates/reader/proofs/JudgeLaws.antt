@@ -356,5 +356,5 @@ module _ (w : ℕ) (hw : w < 2 ^ 64) (l : Line) (el : l ≡ line-of (find rows 0
           pub fields-low : {j : Judged} → ((i : ℕ) → i < 4 → bits (f .sources) (8 * i) 8 < 224) → j ≡ Fits f → Judges w j
           unfolding judged-sources
           fields-low u ej =
-              let v = low-legal (f .sources) (bits w 57 2) (mod-lt (w / 2 ^ 57) (pow-pos 2)) u in
+              let v = low-legal (f .sources) (bits w 57 2) u in
               fields-7 (ej ∙ rw (v 0 (omega arith), v 1 (omega arith), v 2 (omega arith), v 3 (omega arith)))

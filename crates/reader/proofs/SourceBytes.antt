@@ -87,7 +87,7 @@ module _ (k w : ℕ) (h : k < row-count) where
       go : (t : Bool) → choose t (source-legal (bits w 57 2) (bits w (8 * j) (width (where-has t source)))) true
           ≡ source-legal (bits w 57 2) (bits w (8 * j) (width (where-has t source)))
       go true = refl
-      go false = source-low (bits w 57 2) 0 (mod-lt _ (pow-pos 2)) (omega arith) ∙ ap (source-legal (bits w 57 2)) (sym (mod-one _))
+      go false = source-low (bits w 57 2) 0 (omega arith) ∙ ap (source-legal (bits w 57 2)) (sym (mod-one _))
 
   pub sources-so : judge-sources (row-of k) (bits w 57 2) 0 (source-list (instruction-of k w .sources))
       ≡ (require (good k w 0) (refusal 7 0)
@@ -125,5 +125,5 @@ low-bytes v e j h = go (ltb (bits v (8 * j) 8) 224) refl
         let all = has-and (bitAnd (bitAnd v (v / 2)) (v / 4)) 538976288 r .1 (has-and (bitAnd v (v / 2)) (v / 4) r .1 (has-and v (v / 2) r .1 (a, b), d), marked j h) in
         clash (sym (has-true _ r all) ∙ ap (λ (x : ℕ). has x r) e ∙ nothing-in-0 r)
 
-pub low-legal : (v page : ℕ) → page < 4 → ((j : ℕ) → j < 4 → bits v (8 * j) 8 < 224) → (j : ℕ) → j < 4 → source-legal page (bits v (8 * j) 8) ≡ true
-low-legal v page p f j h = sym (source-low page (bits v (8 * j) 8) p (f j h))
+pub low-legal : (v page : ℕ) → ((j : ℕ) → j < 4 → bits v (8 * j) 8 < 224) → (j : ℕ) → j < 4 → source-legal page (bits v (8 * j) 8) ≡ true
+low-legal v page f j h = sym (source-low page (bits v (8 * j) 8) (f j h))

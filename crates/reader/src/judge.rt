@@ -16,7 +16,7 @@ use lookup::Line;
 use lookup::line_of;
 use record::answer::Refusal;
 use record::instruction::Instruction;
-use record::legality::source_ok;
+use rows::sources::source_ok;
 
 // What is known of a word that reads: its row's shape, with the row number from bit 48 up; its sources; the widths of its row's modifiers.
 pub struct Fit {

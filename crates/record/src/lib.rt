@@ -2,7 +2,6 @@
 pub mod answer;
 pub mod fresh;
 pub mod instruction;
-pub mod legality;
 pub mod modifiers;
 pub mod offset;
 pub mod registers;

@@ -1,10 +1,14 @@
--- What a source byte means (01, The frame), with 002's immediates and special constants.
+-- What a source byte means (01, The frame; 02, Item 2), with 002's immediates and special constants.
+use mathlib.Core.Path.{_≡_}
 use mathlib.Core.Bool.{Bool, true, false, not}
 use mathlib.Core.List.{List, [], _∷_}
-use Prim.Native.Nat.{ℕ, _+_, _-_, _*_}
-use lib.Dec.{ltb}
+use mathlib.Core.Logic.{_⊎_}
+use Prim.Native.Nat.{ℕ, _+_, _-_, _*_, _/_, _%_, _<_, _≤_}
+use lib.Dec.{eqb, ltb}
 use lib.ListN.{getD}
 use Rattle.bits.specs.Fields.{choose}
+use Rattle.rows.specs.declared.sources.Source.{Source}
+use Rattle.rows.specs.declared.sources.Source.the-variants.{Read, Released, Uniform, Immediate, SpecialLow, SpecialHigh, Refused}
 
 -- 002's "Immediates", entries 0 to 31
 abbrev pub immediates : List ℕ
@@ -119,6 +123,10 @@ pages = specials-0 ∷ specials-1 ∷ [] ∷ specials-3 ∷ []
 abbrev pub special-at : ℕ → ℕ → Special
 special-at page i = getD (getD pages page []) i reserved
 
+-- a special value is 64 bits wide, two words (02, Item 2)
+pub data Part : Type 0 where
+  low-word high-word : Part
+
 -- what a source byte means
 pub data Meaning : Type 0 where
   -- a register, read plainly
@@ -128,7 +136,8 @@ pub data Meaning : Type 0 where
   uniform : ℕ → Meaning
   -- a constant with its 32-bit value
   immediate : ℕ → Meaning
-  special : Special → Meaning
+  -- one word of a special constant
+  special : Special → Part → Meaning
   refused : Meaning
 
 abbrev pub is-reserved : Special → Bool
@@ -145,13 +154,21 @@ is-reserved lane-id = false
 is-reserved core-id = false
 is-reserved program-counter = false
 
-abbrev pub special-meaning : Special → Meaning
-special-meaning s = choose (is-reserved s) refused (special s)
+-- a word of a special value; a reserved value is refused, both words of it
+abbrev pub special-meaning : Special → Part → Meaning
+special-meaning s p = choose (is-reserved s) refused (special s p)
 
--- entry e of the constants on a page (01, The frame): below 32 an immediate, which is the same on all pages; from 32 up the special value
--- e - 32 of the page
+-- the entries from 32 up, counted from there, are pairs: first a value's low word, then its high word
+abbrev pub part-of : ℕ → Part
+part-of d = choose (eqb (d % 2) 0) low-word high-word
+
+abbrev pub pair-meaning : ℕ → ℕ → Meaning
+pair-meaning page d = special-meaning (special-at page (d / 2)) (part-of d)
+
+-- entry e of the constants on a page. Below 32 it is an immediate, the same on all pages (01, The frame). From 32 up value i of the page's
+-- enumeration has its low word at entry 32 + 2i and its high word at 33 + 2i (02, Item 2).
 abbrev pub constant-meaning : ℕ → ℕ → Meaning
-constant-meaning page e = choose (ltb e 32) (immediate (getD immediates e 0)) (special-meaning (special-at page (e - 32)))
+constant-meaning page e = choose (ltb e 32) (immediate (getD immediates e 0)) (pair-meaning page (e - 32))
 
 -- what a byte means on a page (01, The frame). The 256 bytes are four runs of 64: registers read plainly; registers released; uniforms, of
 -- which each page has its own 64; the entries of the constants.
@@ -166,9 +183,29 @@ is-refused (register-read r) = false
 is-refused (register-released r) = false
 is-refused (uniform u) = false
 is-refused (immediate v) = false
-is-refused (special s) = false
+is-refused (special s p) = false
 is-refused refused = true
 
 -- a source is legal exactly when its meaning isn't refused
 abbrev pub source-legal : ℕ → ℕ → Bool
 source-legal page b = not (is-refused (meaning page b))
+
+-- what each answer on a byte stands for; a special constant is told by its number in the page's enumeration
+abbrev pub source-meaning : ℕ → Source → Meaning
+source-meaning page (Read r) = register-read r
+source-meaning page (Released r) = register-released r
+source-meaning page (Uniform u) = uniform u
+source-meaning page (Immediate v) = immediate v
+source-meaning page (SpecialLow i) = special (special-at page i) low-word
+source-meaning page (SpecialHigh i) = special (special-at page i) high-word
+source-meaning page Refused = refused
+
+-- Item 2 of 02 in its own words, of any way of giving bytes a meaning: where the two words of each value stand, that no other byte is one, and
+-- that only words of reserved values are refused, among them all of page 2
+pub record Paired (means : ℕ → ℕ → Meaning) : Type 0 where
+  pub low : (page i : ℕ) → page < 4 → i < 16 → means page (192 + (32 + 2 * i)) ≡ special-meaning (special-at page i) low-word
+  pub high : (page i : ℕ) → page < 4 → i < 16 → means page (192 + (33 + 2 * i)) ≡ special-meaning (special-at page i) high-word
+  pub no-other : (page b : ℕ) (s : Special) (p : Part) → page < 4 → b < 256 → means page b ≡ special s p → 192 + 32 ≤ b
+  pub refused-only : (page b : ℕ) → page < 4 → b < 256 → means page b ≡ refused
+      → (i : ℕ) × (i < 16) × ((b ≡ 192 + (32 + 2 * i)) ⊎ (b ≡ 192 + (33 + 2 * i))) × (special-at page i ≡ reserved)
+  pub page-2 : (b : ℕ) → 192 + 32 ≤ b → b < 256 → means 2 b ≡ refused

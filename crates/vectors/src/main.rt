@@ -8,6 +8,8 @@ use record::instruction::Instruction;
 use record::instruction::MODIFIERS;
 use record::instruction::Modifiers;
 use record::instruction::Sources;
+use rows::sources;
+use rows::sources::Source;
 use writer::answer::Written;
 
 fn text(s: &[u8]) {
@@ -182,12 +184,140 @@ fn lengths() {
 
 // FADD.f32 with a stray bit, a reserved flow, an empty half mask, a refused widening and a refused source, mended one by one.
 fn faults() {
-    reads_word(0xD8A40000300002FF);
-    reads_word(0x58A40000300002FF);
-    reads_word(0x00A40000300002FF);
-    reads_word(0x00A4C000300002FF);
-    reads_word(0x00A4C000000002FF);
+    reads_word(0xD8A40000300002E0);
+    reads_word(0x58A40000300002E0);
+    reads_word(0x00A40000300002E0);
+    reads_word(0x00A4C000300002E0);
+    reads_word(0x00A4C000000002E0);
     reads_word(0x00A4C00000000201);
+}
+
+// The names of the special constants, by their numbers in the enumerations of pages 0, 1 and 3.
+fn say_page_0(value: u8) {
+    match value {
+        2 => text(b"warp_id"),
+        4 => text(b"framebuffer_size"),
+        5 => text(b"atest_datum"),
+        6 => text(b"sample"),
+        8..=15 => {
+            text(b"blend_descriptor_");
+            number(value as u64 & 7);
+        }
+        _ => text(b"?"),
+    }
+}
+
+fn say_page_1(value: u8) {
+    match value {
+        1 => text(b"thread_local_pointer"),
+        3 => text(b"workgroup_local_pointer"),
+        7 => text(b"resource_table_pointer"),
+        _ => text(b"?"),
+    }
+}
+
+fn say_page_3(value: u8) {
+    match value {
+        1 => text(b"lane_id"),
+        3 => text(b"core_id"),
+        15 => text(b"program_counter"),
+        _ => text(b"?"),
+    }
+}
+
+fn say_special(page: u8, value: u8, word: &[u8]) {
+    match page {
+        0 => say_page_0(value),
+        1 => say_page_1(value),
+        3 => say_page_3(value),
+        _ => text(b"?"),
+    }
+    text(word);
+}
+
+fn say_register(r: u8, rest: &[u8]) {
+    text(b"r");
+    number(r as u64);
+    text(rest);
+}
+
+// What a source byte means.
+fn say_meaning(page: u8, byte: u8) {
+    let m = sources::meaning(page, byte);
+    match m {
+        Source::Read(r) => say_register(r, b""),
+        Source::Released(r) => say_register(r, b" released"),
+        Source::Uniform(u) => {
+            text(b"uniform ");
+            number(u as u64);
+        }
+        Source::Immediate(v) => {
+            text(b"immediate ");
+            io::print_hex(libc::STDOUT_FILENO, v as u64, 8);
+        }
+        Source::SpecialLow(value) => say_special(page, value, b", low word"),
+        Source::SpecialHigh(value) => say_special(page, value, b", high word"),
+        Source::Refused => text(b"no source"),
+    }
+}
+
+// What MOV.i32 with an entry of the constants as its source reads as, and what the entry means.
+fn special_entry(page: u8, entry: u8) {
+    text(b"page ");
+    number(page as u64);
+    text(b", entry ");
+    number(entry as u64);
+    text(b": ");
+    let mut bytes = [0u8; 8];
+    bits::bytes::store64(
+        0x0091C100000000C0 | entry as u64 | (page as u64) << 57,
+        &mut bytes,
+    );
+    let r = read_word(&bytes);
+    match r {
+        Reading::Read(_) => text(b"read"),
+        Reading::Refused(f) => say_refusal(f),
+    }
+    text(b", ");
+    say_meaning(page, 192 | entry);
+    text(b"\n");
+}
+
+fn special_entries(page: u8) {
+    let mut entry = 32;
+    while entry < 64 {
+        special_entry(page, entry);
+        entry += 1;
+    }
+}
+
+// What a byte means.
+fn byte(page: u8, b: u8) {
+    text(b"page ");
+    number(page as u64);
+    text(b", byte ");
+    number(b as u64);
+    text(b": ");
+    say_meaning(page, b);
+    text(b"\n");
+}
+
+// The first and the last byte of registers, released registers and uniforms.
+fn ends(page: u8) {
+    byte(page, 0);
+    byte(page, 63);
+    byte(page, 64);
+    byte(page, 127);
+    byte(page, 128);
+    byte(page, 191);
+}
+
+fn immediates() {
+    let mut b = 192;
+    while b < 224 {
+        byte(2, b);
+        b += 1;
+    }
 }
 
 // A row's default, written and read back: its number, its name and its word.
@@ -241,5 +371,12 @@ fn main() {
     past_the_table();
     offsets();
     faults();
+    special_entries(0);
+    special_entries(1);
+    special_entries(2);
+    special_entries(3);
+    ends(0);
+    ends(3);
+    immediates();
     defaults();
 }

@@ -6,9 +6,9 @@ use crate::rows::{MODIFIER_BITS, MODIFIERS, ROWS};
 
 /// Bit f is 1 where flow f is reserved.
 const RESERVED_FLOWS: u32 = 1 << 11 | 1 << 12 | 1 << 14;
-/// The first source byte for a special constant: 192 + 32.
+/// The first source byte for a word of a special constant: 192 + 32.
 const FIRST_SPECIAL: u8 = 224;
-/// By page, bit i is 1 where entry 32 + i names something.
+/// By page, bit i is 1 where value i is not reserved. Its low word is entry 32 + 2i, its high word entry 33 + 2i.
 const SPECIALS: [u32; 4] = [
     // warp_id, framebuffer_size, atest_datum, sample, blend_descriptor_0 to 7
     1 << 2 | 1 << 4 | 1 << 5 | 1 << 6 | 0xFF << 8,
@@ -109,7 +109,7 @@ fn legal(word: u64, layout: &Layout) -> Result<(), Refusal> {
 #[cold]
 fn legal_specials(sources: u32, page: u8) -> Result<(), Refusal> {
     for (index, byte) in sources.to_le_bytes().into_iter().enumerate() {
-        if byte >= FIRST_SPECIAL && SPECIALS[page as usize] >> (byte - FIRST_SPECIAL) & 1 == 0 {
+        if byte >= FIRST_SPECIAL && SPECIALS[page as usize] >> ((byte - FIRST_SPECIAL) / 2) & 1 == 0 {
             return Err(Refusal::Source(index as u8));
         }
     }

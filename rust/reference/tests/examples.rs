@@ -63,7 +63,8 @@ fn words_that_read() {
         (0x001F_0007_FFFF_FFC0, branch),
         (0x00A5_C000_2800_0201, fadd16),
         (0x0291_C100_0000_0085, Instruction { page: 1, ..plain("MOV.i32", 1, [133, 0, 0, 0]) }),
-        (0x0091_C100_0000_00E2, plain("MOV.i32", 1, [226, 0, 0, 0])),
+        (0x0091_C100_0000_00E4, plain("MOV.i32", 1, [228, 0, 0, 0])),
+        (0x0091_C100_0000_00E5, plain("MOV.i32", 1, [229, 0, 0, 0])),
     ];
     for (word, instruction) in examples {
         assert_eq!(read_word(word), Ok(instruction), "{word:016X}");
@@ -79,6 +80,7 @@ fn words_that_are_refused() {
         (0x5891_C100_0000_0002, Refusal::ReservedFlow),
         (0x00F0_C006_0002_0100, Refusal::Modifier(32)),
         (0x0091_C100_0000_00E0, Refusal::Source(0)),
+        (0x0091_C100_0000_00E2, Refusal::Source(0)),
         (0x0091_C100_0000_0102, Refusal::UnassignedBit),
         (0x0091_0100_0000_0002, Refusal::EmptyHalfMask),
     ];
@@ -116,10 +118,10 @@ fn instructions_that_are_refused() {
         (with(mov, 30, 1), Refusal::FieldRange),
         (with(lane, 28, 2), Refusal::FieldRange),
         (Instruction { flow: 12, half_mask: 0, ..mov }, Refusal::ReservedFlow),
-        (Instruction { half_mask: 0, sources: [255, 0, 0, 0], ..mov }, Refusal::EmptyHalfMask),
-        (with(with(plain("ICMP_OR.u32", 0, [255; 4]), 32, 7), 26, 1), Refusal::FieldRange),
-        (with(with(plain("ICMP_OR.u32", 0, [0, 0, 255, 0]), 32, 7), 26, 1), Refusal::Modifier(26)),
-        (plain("CSEL.f32", 0, [0, 0, 224, 255]), Refusal::Source(2)),
+        (Instruction { half_mask: 0, sources: [224, 0, 0, 0], ..mov }, Refusal::EmptyHalfMask),
+        (with(with(plain("ICMP_OR.u32", 0, [224; 4]), 32, 7), 26, 1), Refusal::FieldRange),
+        (with(with(plain("ICMP_OR.u32", 0, [0, 0, 224, 0]), 32, 7), 26, 1), Refusal::Modifier(26)),
+        (plain("CSEL.f32", 0, [0, 255, 225, 224]), Refusal::Source(2)),
     ];
     for (instruction, refusal) in examples {
         assert_eq!(write_word(&instruction), Err(refusal), "{instruction:?}");
@@ -130,7 +132,7 @@ fn instructions_that_are_refused() {
     }
 }
 
-/// Every source byte on every page, against the enumerations spelled out by name.
+/// Every source byte on every page, against the enumerations spelled out by name: a value has two bytes, its low and its high word.
 #[test]
 fn source_bytes() {
     let names: [&[(u8, &str)]; 4] = [
@@ -154,7 +156,9 @@ fn source_bytes() {
     ];
     for page in 0..4 {
         for byte in 0..=255 {
-            let named = names[page as usize].iter().any(|(value, _)| 192 + 32 + value == byte);
+            let named = names[page as usize]
+                .iter()
+                .any(|(value, _)| [192 + 32 + 2 * value, 192 + 33 + 2 * value].contains(&byte));
             let instruction = Instruction { page, ..plain("MOV.i32", 1, [byte, 0, 0, 0]) };
             let expected = if byte < 224 || named { Ok(instruction) } else { Err(Refusal::Source(0)) };
             let word = A & !0xFF | u64::from(byte) | u64::from(page) << 57;

@@ -81,6 +81,6 @@ row-words r = r .opcode ∷ r .second ∷ set-of (fixed-bit r) 64 ∷ shape r �
 unfoldable pub table : List (List ℕ)
 table = map row-words rows
 
--- the special constants of a page that are not reserved
+-- the values of a page's enumeration that are not reserved, as a set
 abbrev pub page-word : ℕ → ℕ
 page-word p = set-of (λ (i : ℕ). not (is-reserved (special-at p i))) 16

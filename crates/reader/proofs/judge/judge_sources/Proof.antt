@@ -8,7 +8,7 @@ use Rattle.reader.proofs.judge.judge_sources.Reads as reads
 use Rattle.reader.proofs.judge.judge_sources.Lts as lts
 use Rattle.bits.proofs.fields.bits_at.Reads as bits-at-reads
 use Rattle.reader.proofs.judge.refuse.Reads as refuse-reads
-use Rattle.record.proofs.legality.source_ok.Reads as source-ok-reads
+use Rattle.rows.proofs.sources.source_ok.Reads as source-ok-reads
 
 bits-at-requires : tie.Need-bits-at-requires
 bits-at-requires c κs = search needs
