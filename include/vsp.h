@@ -84,6 +84,9 @@ extern "C" {
 #define VSP_WORD 8
 #define VSP_FORM 32
 
+/* From vsp_row_of: the opcode has no such row. */
+#define VSP_NO_ROW 255
+
 /* The bytes of a form. */
 enum {
     VSP_ROW = 0,
@@ -97,8 +100,9 @@ enum {
 };
 
 /*
- * The parts of an answer; place, index and register mean something only where the number
- * isn't 0, and the last two are for vsp_check and vsp_infer only.
+ * The parts of an answer, but for vsp_row_of, which gives a row; place, index and register
+ * mean something only where the number isn't 0, and the last two are for vsp_check and
+ * vsp_infer only.
  */
 #define VSP_NUMBER(answer) ((unsigned)((answer) & 0xFF))
 #define VSP_PLACE(answer) ((unsigned)((answer) >> 8 & 0xFF))
@@ -181,6 +185,14 @@ uint32_t vsp_write(const uint8_t form[VSP_FORM], uint8_t *word, size_t length);
  * form as it was. A fresh instruction can always be written.
  */
 uint32_t vsp_fresh(size_t row, uint8_t form[VSP_FORM]);
+
+/*
+ * Gives the k-th row that has the opcode (bits 48 to 56 of a word), counted from 0 in row
+ * order, or VSP_NO_ROW where there is none: for any opcode, however large, and any k. Asking
+ * for k = 0, 1, 2 and so on until VSP_NO_ROW gives all of the opcode's rows; there are 25 at
+ * most. vsp_read compares a word with the rows of its opcode and with no others.
+ */
+uint32_t vsp_row_of(uint64_t opcode, uint64_t k);
 
 #ifdef __cplusplus
 }

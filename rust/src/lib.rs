@@ -140,6 +140,15 @@ pub fn fresh(row: u64) -> Result<Form, Refusal> {
     answer(raw::fresh(row, &mut form)).map(|()| Form::from_bytes(&form))
 }
 
+/// The k-th row that has an opcode (bits 48 to 56 of a word), counted from 0 in row order, or
+/// none: for any opcode, however large, and any k. An opcode has 25 rows at most.
+pub fn row_of(opcode: u64, k: u64) -> Option<u8> {
+    match raw::row_of(opcode, k) {
+        raw::NO_ROW => None,
+        row => Some(row as u8),
+    }
+}
+
 fn answer(code: u32) -> Result<(), Refusal> {
     match code {
         0 => Ok(()),

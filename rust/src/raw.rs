@@ -2,11 +2,15 @@
 
 use crate::FORM;
 
+/// From [`row_of`]: the opcode has no such row.
+pub const NO_ROW: u32 = 255;
+
 unsafe extern "C" {
     fn vsp_check(parcel: *const u8, length: usize) -> u64;
     fn vsp_read(word: *const u8, length: usize, form: *mut u8) -> u32;
     fn vsp_write(form: *const u8, word: *mut u8, length: usize) -> u32;
     fn vsp_fresh(row: u64, form: *mut u8) -> u32;
+    fn vsp_row_of(opcode: u64, k: u64) -> u32;
     fn vsp_infer(words: *const u8, length: usize, entry: u64, notes: *mut u8, notes_length: usize) -> u64;
 }
 
@@ -32,6 +36,12 @@ pub fn write(form: &[u8; FORM], word: &mut [u8]) -> u32 {
 pub fn fresh(row: u64, form: &mut [u8; FORM]) -> u32 {
     // SAFETY: the form is 32 bytes to write to.
     unsafe { vsp_fresh(row, form.as_mut_ptr()) }
+}
+
+/// The row, or [`NO_ROW`].
+pub fn row_of(opcode: u64, k: u64) -> u32 {
+    // SAFETY: the function takes two numbers of any value.
+    unsafe { vsp_row_of(opcode, k) }
 }
 
 /// 2^16 sweeps, or number + 2^8 place + 2^16 index + 2^32 register; then the notes keep their

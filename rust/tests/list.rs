@@ -2,35 +2,11 @@
 
 mod common;
 
+use common::compile;
 use inputs::{Program, Rng, Shape, parcel, refused_word, with_word};
 use reference::{Parcel, Verdict, check, read};
 use std::path::{Path, PathBuf};
 use std::process::{Command, Output};
-
-fn folder() -> PathBuf {
-    PathBuf::from(env!("CARGO_TARGET_TMPDIR"))
-}
-
-fn root() -> PathBuf {
-    Path::new(env!("CARGO_MANIFEST_DIR")).join("..")
-}
-
-/// Compiles the example, with warnings as errors, under a name of the test's own.
-fn compile(name: &str) -> PathBuf {
-    let program = folder().join(name);
-    let compiler = std::env::var_os("CC").unwrap_or_else(|| "cc".into());
-    let output = Command::new(compiler)
-        .args(["-std=c99", "-pedantic", "-Wall", "-Wextra", "-Werror", "-O2", "-I"])
-        .arg(root().join("include"))
-        .arg(root().join("examples/list.c"))
-        .arg(env!("VSP_LIBRARY"))
-        .arg("-o")
-        .arg(&program)
-        .output()
-        .unwrap();
-    assert!(output.status.success(), "{}", String::from_utf8_lossy(&output.stderr));
-    program
-}
 
 /// A file with these bytes beside the program.
 fn input(program: &Path, bytes: &[u8]) -> PathBuf {
@@ -73,7 +49,7 @@ fn expected(bytes: &[u8]) -> String {
 
 #[test]
 fn lists_parcels() {
-    let program = compile("list");
+    let program = compile("list.c", "list");
     let mut rng = Rng::new(400);
     let mut cases = vec![parcel(4, &[0x7891_C100_0000_0002], &[4]), Vec::new(), vec![0; 16], vec![1; 40_000]];
     for count in [1, 2, 50, 2048] {
@@ -90,7 +66,7 @@ fn lists_parcels() {
         assert_eq!(String::from_utf8_lossy(&output.stdout), expected(&bytes), "listing {}", common::hex(&bytes));
         assert_eq!(output.status.code(), Some(if accepted { 0 } else { 1 }), "listing {}", common::hex(&bytes));
     }
-    let missing = Command::new(&program).arg(folder().join("no such file")).output().unwrap();
+    let missing = Command::new(&program).arg(program.with_file_name("no such file")).output().unwrap();
     assert_eq!((missing.status.code(), missing.stdout.len()), (Some(2), 0));
     let nameless = Command::new(&program).output().unwrap();
     assert_eq!((nameless.status.code(), nameless.stdout.len()), (Some(2), 0));
@@ -100,7 +76,7 @@ fn lists_parcels() {
 /// longest listing fails while it is printed, the short ones only when they are flushed.
 #[test]
 fn tells_what_is_not_written() {
-    let program = compile("list-unwritten");
+    let program = compile("list.c", "list-unwritten");
     let accepted = parcel(4, &[0x7891_C100_0000_0002], &[4]);
     let long = parcel(0, &[0x7800_0000_0000_0000; 2048], &[0; 2048]);
     for bytes in [accepted, long, Vec::new()] {

@@ -3,6 +3,7 @@ use mathlib.Core.Path.{_≡_, refl, sym, ap, _∙_}
 use mathlib.Core.Bool.{Bool, true, false, not}
 use mathlib.Core.List.{List, [], _∷_, _++_}
 use mathlib.Core.Logic.{_↔_, inl, inr, ⊎-elim}
+use mathlib.Core.Option.{Option, none, some as found, Option·some-ne-none}
 use Prim.Native.Nat.{ℕ, zero, suc, _+_, _*_, _/_, _%_, _<_}
 use native.Mathlib.Omega.{arith}
 use lib.Dec.{eqb, ltb, lit≤}
@@ -16,6 +17,8 @@ use Rattle.bits.specs.Signed.{unsigned}
 use Rattle.bits.proofs.OutcomeLaws.{never, then-gives, required, Refusals, on, weaker}
 use Rattle.bits.proofs.SignedLaws.{there}
 use Rattle.rows.specs.Rows.{row-of, row-count}
+use Rattle.lookup.specs.Opcodes.{row-with}
+use Rattle.lookup.proofs.RunLaws.{indexes}
 use Rattle.record.specs.declared.instruction.Instruction.{Instruction}
 use Rattle.record.specs.declared.answer.Refusal.{Refusal}
 use Rattle.record.specs.Answers.{refusal}
@@ -37,9 +40,9 @@ use Rattle.verifier.proofs.ProgramLaws.{bytes-below}
 use Rattle.verifier.proofs.NumberedLaws.{FromTheRules, verdict-numbers}
 use Rattle.infer.specs.Inference.{infer-outcome}
 use Rattle.infer.proofs.NumberedLaws.{FromTheMaker, infer-numbers}
-use Rattle.capi.specs.Codes.{verdict-code, infer-code}
+use Rattle.capi.specs.Codes.{verdict-code, infer-code, row-code}
 use Rattle.capi.specs.Form.{half, form-of, pick, instruction-of-form, padded, write-form, word-after}
-use Rattle.capi.specs.Promises.{ZeroTells, ZeroMeansDone, ReadThenWritten, WrittenThenRead, FreshThenWritten}
+use Rattle.capi.specs.Promises.{ZeroTells, ZeroMeansDone, NoRowMeansNone, ReadThenWritten, WrittenThenRead, FreshThenWritten}
 use Rattle.capi.proofs.OffsetLaws.{few}
 use Rattle.capi.proofs.FormLaws.{form-bytes, form-back}
 use Rattle.capi.proofs.AnswerLaws.{through, kept}
@@ -80,6 +83,16 @@ zero-means-done =
       of-check = λ s. verdict-zero (verdict-of s) (weaker (λ (f : Finding) (n : FromTheRules (f .number)). no-rule-0 n) (verdict-numbers s));
       of-infer = λ words entry buffer. infer-zero (infer-outcome words entry buffer) (infer-numbers words entry buffer);
     }
+
+-- a row's number is below 255
+pub no-row-means-none : NoRowMeansNone
+no-row-means-none opcode k = go (row-with opcode k) refl
+  where
+    go : (x : Option ℕ) → row-with opcode k ≡ x → (row-code x ≡ 255) ↔ (x ≡ none)
+    go (found i) e =
+        let l : i < row-count = indexes .has-it opcode k i e .0 in
+        (λ q. absurd (omega (arith, l, q)), λ q. absurd (Option·some-ne-none i q))
+    go none e = (λ q. refl, λ q. refl)
 
 -- so demand 3 holds of a check that answers 0 where it accepts
 pub demanded : (s : List ℕ) → ((k : ℕ) → getD s k 0 < 256) → {r : ℕ} → r ≡ verdict-code (verdict-of s) → Demand3At s (r ≡ 0)

@@ -1,4 +1,5 @@
 -- Answers as single numbers.
+use mathlib.Core.Option.{Option, none, some}
 use Prim.Native.Nat.{ℕ, _+_, _*_, _^_}
 use Rattle.bits.specs.Outcomes.{Outcome, gives, refuses}
 use Rattle.record.specs.declared.answer.Refusal.{Refusal}
@@ -27,3 +28,8 @@ verdict-code (refuses f) = packed f
 abbrev pub infer-code : Outcome Finding ℕ → ℕ
 infer-code (gives k) = 2 ^ 16 * k
 infer-code (refuses f) = packed f
+
+-- a row, or 255 where there is none
+abbrev pub row-code : Option ℕ → ℕ
+row-code (some row) = row
+row-code none = 255

@@ -3,24 +3,26 @@
 use mathlib.Core.Path.{_≡_}
 use mathlib.Core.List.{List}
 use mathlib.Core.Logic.{_↔_}
+use mathlib.Core.Option.{none}
 use Prim.Native.Nat.{ℕ, _%_, _^_, _<_}
 use lib.ListN.{length, getD}
 use Rattle.bits.specs.Outcomes.{Outcome, gives, passes}
 use Rattle.record.specs.declared.instruction.Instruction.{Instruction}
 use Rattle.record.specs.declared.answer.Refusal.{Refusal}
+use Rattle.lookup.specs.Opcodes.{row-with}
 use Rattle.codec.specs.Demand2.{Given}
 use Rattle.reader.specs.Reader.{read}
 use Rattle.record.specs.Defaults.{fresh}
 use Rattle.verifier.specs.Verdict.{verdict-of}
 use Rattle.infer.specs.Inference.{infer-outcome}
-use Rattle.capi.specs.Codes.{outcome-code, verdict-code, infer-code}
+use Rattle.capi.specs.Codes.{outcome-code, verdict-code, infer-code, row-code}
 use Rattle.capi.specs.Form.{form-of, write-form, word-after}
 
 -- "Gives 0 .., or number + 2^8 place": the code is 0 exactly where something is given, so that no refusal looks like success
 abbrev pub ZeroTells : {A : Type 0} → Outcome Refusal A → Type 0
 ZeroTells o = (outcome-code o ≡ 0) ↔ Given o
 
--- so for each exported function
+-- so for each exported function that can refuse
 pub record ZeroMeansDone : Type 0 where
   -- vsp_read
   pub of-read : (bs : List ℕ) → ZeroTells (read bs)
@@ -33,6 +35,10 @@ pub record ZeroMeansDone : Type 0 where
   -- vsp_infer: "so that the number is 0, where it proposes notes". The number is the code's lowest byte.
   pub of-infer : (words : List ℕ) (entry : ℕ) (buffer : List ℕ)
       → (infer-code (infer-outcome words entry buffer) % 2 ^ 8 ≡ 0) ↔ ((k : ℕ) × (infer-outcome words entry buffer ≡ gives k))
+
+-- vsp_row_of: "or VSP_NO_ROW where there is none": 255 is the number of no row
+abbrev pub NoRowMeansNone : Type 0
+NoRowMeansNone = (opcode k : ℕ) → (row-code (row-with opcode k) ≡ 255) ↔ (row-with opcode k ≡ none)
 
 -- vsp_read: "Writing the form gives the same word again." Whatever the buffer of 8 bytes held, it then holds the bytes that were read.
 abbrev pub ReadThenWritten : Type 0

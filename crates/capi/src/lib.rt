@@ -1,13 +1,14 @@
 // The exported functions for C and Rust: numbers, byte slices and fixed arrays only.
 ghost use mathlib.Core.Path.{_≡_};
 ghost use Prim.Native.Nat.{_<_};
+ghost use Rattle.lookup.specs.Opcodes.{row-with};
 ghost use Rattle.reader.specs.Reader.{read};
 ghost use Rattle.record.specs.Defaults.{fresh};
 ghost use Rattle.verifier.specs.Verdict.{verdict-of};
 ghost use Rattle.verifier.specs.Demand3.{Demand3At};
 ghost use Rattle.infer.specs.Inference.{infer-outcome, infer-buffer};
 ghost use Rattle.infer.specs.Asked.{AsAsked};
-ghost use Rattle.capi.specs.Codes.{code, packed, outcome-code, verdict-code, infer-code};
+ghost use Rattle.capi.specs.Codes.{code, packed, outcome-code, verdict-code, infer-code, row-code};
 ghost use Rattle.capi.specs.Form.{form-after, write-form, word-after};
 use crate::form::form_of;
 use crate::form::instruction_of_form;
@@ -17,6 +18,8 @@ use codec::read_word;
 use codec::write_word;
 use infer::answer::Inference;
 use infer::infer;
+use lookup::opcodes::RowFound;
+use lookup::opcodes::row_with;
 use reader::answer::Reading;
 use record::answer::Fresh;
 use record::answer::Refusal;
@@ -124,5 +127,17 @@ pub extern "C" fn vsp_fresh(row: usize, form: &mut [u8; 32]) -> u32
             0
         }
         Fresh::Refused(f) => refusal_code(f),
+    }
+}
+
+// The k-th row that has an opcode, from 0 in row order, or 255.
+#[no_mangle]
+pub extern "C" fn vsp_row_of(opcode: u64, k: u64) -> u32
+    ensures { λ r. ⌜ r ≡ row-code (row-with opcode k) ⌝ }
+{
+    let found = row_with(opcode, k);
+    match found {
+        RowFound::Row(row) => row as u32,
+        RowFound::None => 255,
     }
 }

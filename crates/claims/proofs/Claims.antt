@@ -13,6 +13,11 @@ use Rattle.rows.specs.Rows.{row-count}
 use Rattle.rows.specs.Sources.{meaning, Paired}
 use Rattle.rows.proofs.sources.meaning as meaning-call
 use Rattle.rows.proofs.SourceLaws as source-laws
+use Rattle.lookup.specs.Opcodes.{row-with, Indexes, row-for, OwnRows}
+use Rattle.lookup.proofs.opcodes.row_with as row-call
+use Rattle.lookup.proofs.line_of as line-call
+use Rattle.lookup.proofs.RunLaws as run-laws
+use Rattle.lookup.proofs.OpcodeLaws as opcode-laws
 use Rattle.record.specs.declared.answer.Refusal.{Refusal}
 use Rattle.record.specs.declared.instruction.Instruction.{Instruction}
 use Rattle.record.specs.Defaults.{fresh, default-instruction}
@@ -75,10 +80,11 @@ use Rattle.listing.specs.Cut.{FromTheFront}
 use Rattle.listing.proofs.«write» as list-call
 use Rattle.listing.proofs.AskedLaws as asked
 use Rattle.listing.proofs.CutLaws as cut
-use Rattle.capi.specs.Promises.{ZeroMeansDone, ReadThenWritten, WrittenThenRead, FreshThenWritten}
+use Rattle.capi.specs.Promises.{ZeroMeansDone, NoRowMeansNone, ReadThenWritten, WrittenThenRead, FreshThenWritten}
 use Rattle.capi.proofs.vsp_read as vsp-read-call
 use Rattle.capi.proofs.vsp_write as vsp-write-call
 use Rattle.capi.proofs.vsp_fresh as vsp-fresh-call
+use Rattle.capi.proofs.vsp_row_of as vsp-row-of-call
 use Rattle.capi.proofs.vsp_check as vsp-check-call
 use Rattle.capi.proofs.vsp_infer as vsp-infer-call
 use Rattle.capi.proofs.PromiseLaws as promises
@@ -98,6 +104,10 @@ module _ {M : Type 1} where
   -- `rows::sources::meaning`: the answer stands for `meaning` of the page and the source byte
   pub means : meaning-call.Statement.statement M
   means = meaning-call.Met.met
+
+  -- `lookup::opcodes::row_with`: the answer stands for `row-with` of the opcode and k
+  pub gives-rows : row-call.Statement.statement M
+  gives-rows = row-call.Met.met
 
   -- `Instruction::fresh`: the answer is `fresh` of the row number
   pub makes : fresh-call.Statement.statement M
@@ -156,6 +166,9 @@ module _ {M : Type 1} where
 
   pub c-makes : vsp-fresh-call.Statement.statement M
   c-makes = vsp-fresh-call.Met.met
+
+  pub c-gives-rows : vsp-row-of-call.Statement.statement M
+  c-gives-rows = vsp-row-of-call.Met.met
 
   pub c-checks : vsp-check-call.Statement.statement M
   c-checks = vsp-check-call.Met.met
@@ -302,6 +315,20 @@ not-by-stopping-early = lazy-makers.stops-early
 pub special-pairs : Paired meaning
 special-pairs = source-laws.paired
 
+-- ---- Item 3 of paper 02: the rows of an opcode, one by one. What is given under an opcode has it, and each row is given under its opcode at
+-- one k, in row order and from 0; no opcode has over 25.
+pub rows-by-opcode : Indexes row-with
+rows-by-opcode = run-laws.indexes
+
+-- a word's row is looked for among those of its opcode, and the row that fits is found, if one does; the reader's lookup gives the line of
+-- what is found
+pub own-rows-only : OwnRows row-for
+own-rows-only = opcode-laws.own-rows
+
+module _ {M : Type 1} where
+  pub leads-to-own-rows : line-call.Statement.statement M
+  leads-to-own-rows = line-call.Met.met
+
 -- ---- The listing: of a well-formed parcel a line for each word and then the verdict, else the verdict only; no digit is lost
 pub listed : (s : List ℕ) → T (areBytes s) → ListedAsAsked s (listing s)
 listed = asked.listed-as-asked
@@ -313,9 +340,12 @@ listing-from-the-front = cut.listing-from-the-front
 pub verdict-from-the-front : FromTheFront verdict-of
 verdict-from-the-front = cut.verdict-from-the-front
 
--- ---- The C header: 0 means done, and forms and words undo one another
+-- ---- The C header: 0 means done, 255 no row, and forms and words undo one another
 pub zero-means-done : ZeroMeansDone
 zero-means-done = promises.zero-means-done
+
+pub no-row-means-none : NoRowMeansNone
+no-row-means-none = promises.no-row-means-none
 
 pub read-then-written : ReadThenWritten
 read-then-written = promises.read-then-written

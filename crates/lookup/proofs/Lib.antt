@@ -1,1 +1,5 @@
+pub mod KeyedLaws
+pub mod SlotLaws
+pub mod OpcodeLaws
+pub mod RunLaws
 pub mod IndexLaws

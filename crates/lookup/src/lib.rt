@@ -1,12 +1,15 @@
-// The row that a word fits, found by its opcode and its secondary opcode, as the numbers by which the word is judged. A `match` compiles to
-// constant data; a constant array that is indexed at run time is stored anew at every call.
+// The row that a word fits, found among those of its opcode by the secondary opcode, as the numbers by which the word is judged. A `match`
+// compiles to constant data; a constant array that is indexed at run time is stored anew at every call.
 ghost use mathlib.Core.Path.{_≡_};
-ghost use Rattle.rows.specs.Rows.{rows};
-ghost use Rattle.rows.specs.Layout.{find};
-ghost use Rattle.lookup.specs.served.Lines.{line-from, line-of};
+ghost use mathlib.Core.Option.{Option·map};
+ghost use Rattle.lookup.specs.Opcodes.{row-for};
+ghost use Rattle.lookup.specs.served.Lines.{line-from, line-of, line-found, OwnRow};
 ghost use Rattle.lookup.specs.served.Index.{group, group-at, row-under};
+use crate::opcodes::slot_of;
 use bits::fields::bits_at;
 use rows::table;
+
+pub mod opcodes;
 
 pub struct Line {
     // the bits that the row fixes, opcodes and unassigned ones, and what they are
@@ -20,11 +23,17 @@ pub struct Line {
     pub shape: u64,
 }
 
-// The rows of an opcode: where the secondary opcode stands, and the cell of secondary opcode 0.
+// What a word leads to: the line of a row of its opcode, or none.
+pub enum Found {
+    Line(Line),
+    None,
+}
+
+// The rows of an opcode: where the secondary opcode stands, which ones they have, as a set, and the cell of secondary opcode 0.
 pub struct Group {
-    pub opcode: u64,
     pub low: u64,
     pub mask: u64,
+    pub seconds: u64,
     pub cell: u64,
 }
 
@@ -46,53 +55,53 @@ fn line_with(row: u64, v: table::Row) -> Line
 }
 
 // A group from its numbers.
-fn grouped(opcode: u64, low: u64, mask: u64, cell: u64) -> Group
-    ensures { λ g. ⌜ g ≡ group opcode low mask cell ⌝ }
+fn grouped(low: u64, mask: u64, seconds: u64, cell: u64) -> Group
+    ensures { λ g. ⌜ g ≡ group low mask seconds cell ⌝ }
 {
     Group {
-        opcode,
         low,
         mask,
+        seconds,
         cell,
     }
 }
 
-// The group of an opcode, by its hash; no word has the opcode of the last.
-fn group_at(hash: u64) -> Group
-    ensures { λ g. ⌜ g ≡ group-at hash ⌝ }
+// The group in a slot of the index; an empty one has no secondary opcodes.
+fn group_at(slot: u64) -> Group
+    ensures { λ g. ⌜ g ≡ group-at slot ⌝ }
 {
-    match hash {
-        0 => grouped(0x00, 0, 0, 0),
-        3 => grouped(0xF5, 24, 3, 170),
-        4 => grouped(0x98, 16, 15, 53),
-        6 => grouped(0xA4, 16, 15, 85),
-        10 => grouped(0xBC, 24, 15, 120),
-        11 => grouped(0xA5, 16, 15, 101),
-        14 => grouped(0x154, 0, 0, 3),
-        19 => grouped(0x155, 0, 0, 4),
-        20 => grouped(0xF8, 24, 3, 174),
-        24 => grouped(0x90, 16, 31, 5),
-        25 => grouped(0xF9, 24, 3, 178),
-        26 => grouped(0x9C, 16, 15, 69),
-        29 => grouped(0x91, 16, 15, 37),
-        31 => grouped(0xFA, 24, 3, 182),
-        32 => grouped(0xC0, 0, 0, 136),
-        37 => grouped(0xC1, 0, 0, 137),
-        40 => grouped(0xF0, 24, 3, 154),
-        42 => grouped(0x1F, 0, 0, 1),
-        43 => grouped(0xC2, 24, 15, 138),
-        45 => grouped(0xF1, 24, 3, 158),
-        48 => grouped(0x20, 0, 0, 2),
-        51 => grouped(0xF2, 24, 3, 162),
-        52 => grouped(0xB8, 0, 0, 117),
-        57 => grouped(0xB9, 0, 0, 118),
-        62 => grouped(0xF4, 24, 3, 166),
-        63 => grouped(0xBA, 0, 0, 119),
-        _ => grouped(512, 0, 0, EMPTY),
+    match slot {
+        1 => grouped(0, 0, 0x1, 0),
+        3 => grouped(0, 0, 0x1, 1),
+        5 => grouped(0, 0, 0x1, 2),
+        7 => grouped(16, 31, 0x56BFFEBF, 5),
+        8 => grouped(16, 15, 0x7771, 37),
+        9 => grouped(16, 15, 0x3, 53),
+        10 => grouped(16, 15, 0xF575, 69),
+        12 => grouped(16, 15, 0x1, 85),
+        13 => grouped(16, 15, 0x1, 101),
+        15 => grouped(0, 0, 0x1, 117),
+        16 => grouped(0, 0, 0x1, 118),
+        17 => grouped(0, 0, 0x1, 119),
+        18 => grouped(24, 15, 0x3, 120),
+        20 => grouped(0, 0, 0x1, 136),
+        21 => grouped(0, 0, 0x1, 137),
+        22 => grouped(24, 15, 0x3, 138),
+        24 => grouped(24, 3, 0x3, 154),
+        25 => grouped(24, 3, 0x3, 158),
+        26 => grouped(24, 3, 0x3, 162),
+        27 => grouped(24, 3, 0x3, 166),
+        28 => grouped(24, 3, 0x3, 170),
+        29 => grouped(24, 3, 0x1, 174),
+        30 => grouped(24, 3, 0x1, 178),
+        31 => grouped(24, 3, 0x1, 182),
+        33 => grouped(0, 0, 0x1, 3),
+        34 => grouped(0, 0, 0x1, 4),
+        _ => grouped(0, 0, 0, EMPTY),
     }
 }
 
-// The line in a cell; in an empty one that of no row.
+// The line in a cell; in an empty one, to which no word leads, that of no row.
 fn line_at(cell: u64) -> Line
     ensures { λ l. ⌜ l ≡ line-of (row-under cell) ⌝ }
 {
@@ -178,14 +187,15 @@ fn line_at(cell: u64) -> Line
     }
 }
 
-// The line of the row that a word fits, or that of no row. The hash is apart for the 26 opcodes.
-pub fn line_of(w: u64) -> Line
-    ensures { λ l. ⌜ l ≡ line-of (find rows 0 w) ⌝ }
+// The line of the row that a word fits, looked for among the rows of its opcode only, or none.
+pub fn line_of(w: u64) -> Found
+    ensures answer { λ r. ⌜ line-found r ≡ Option·map line-of (row-for w) ⌝ }
+    ensures own { λ r. ⌜ OwnRow w (line-found r) ⌝ }
 {
-    let opcode = bits_at(w, 48, 9);
-    let g = group_at(opcode * 11 / 2 % 64);
-    if opcode != g.opcode {
-        return line_at(EMPTY);
+    let g = group_at(slot_of(bits_at(w, 48, 9)));
+    let second = (w >> g.low % 64) & g.mask;
+    if bits_at(g.seconds, second, 1) == 0 {
+        return Found::None;
     }
-    line_at(g.cell + ((w >> g.low % 64) & g.mask))
+    Found::Line(line_at(g.cell + second))
 }

@@ -1,24 +1,22 @@
--- A word agrees with the bits that its row fixes exactly if it has no stray bit; with those of no row it never agrees. Assumes nothing.
-use mathlib.Core.Path.{_≡_, refl, sym, ap, ap₂, _∙_, subst}
+-- A word agrees with the bits that its row fixes exactly if it has no stray bit. Assumes nothing.
+use mathlib.Core.Path.{_≡_, refl, sym, ap, _∙_, subst}
 use mathlib.Core.Bool.{Bool, true, false, _&&_, _||_, not}
-use mathlib.Core.Logic.{⊎-elim}
-use Prim.Native.Nat.{ℕ, _+_, _-_, _*_, _/_, _%_, _^_, _<_, _≤_}
-use native.Mathlib.Nat.{mod-lt, mod-eq-of-lt, le-antisymm}
+use Prim.Native.Nat.{ℕ, _+_, _-_, _/_, _%_, _^_, _<_}
+use native.Mathlib.Nat.{mod-lt, le-antisymm}
 use native.Mathlib.Omega.{arith}
-use lib.Bits.{bitAnd, and-mask, and-shr, and-mod, and-lt}
+use lib.Bits.{bitAnd, and-lt}
 use lib.Dec.{T, eqb, ltb, leb}
 use lib.Pow.{pow-pos, shr-shr, field, mod-mod-pow}
-use borrow.Author.Tests.{eq-eqb, ltb-true, leb-true, eqb-true}
+use borrow.Author.Tests.{ltb-true, leb-true}
 use Rattle.bits.specs.Fields.{Slot, slot, bits, choose, inside, assigned}
-use Rattle.bits.specs.Sets.{has, Has}
+use Rattle.bits.specs.Sets.{has}
 use Rattle.bits.proofs.Every.{iff, iff-eq, every, at, and-l, and-r, both, T-true, not-T, clash}
-use Rattle.bits.proofs.SetLaws.{has-both, has-true, has-false, true-has, member-below, subset-le}
+use Rattle.bits.proofs.SetLaws.{has-both, has-true, true-has, member-below, subset-le}
 use Rattle.rows.specs.Rows.{Row, rows, row-of, no-row, row-count}
-use Rattle.rows.specs.Layout.{places, slots, modifier-at, fits, find}
+use Rattle.rows.specs.Layout.{places, slots, modifier-at, fits}
 use Rattle.rows.specs.served.Table.{set-of, upto, fixed-bit, fixed}
 use Rattle.rows.proofs.TableLaws.{in-table}
 use Rattle.rows.proofs.RowLaws.{opcode-there, second-there}
-use Rattle.rows.proofs.FindLaws.{find-row}
 use Rattle.rows.proofs.SetOfLaws.{has-set-of, upto-at, set-lt}
 use Rattle.reader.specs.Reader.{lowest-stray}
 use Rattle.reader.proofs.StrayLaws.{stray-clean, clean-stray}
@@ -143,22 +141,3 @@ module _ (k : ℕ) (h : k < row-count) where
         zero-bit b l q false p =
             let s : bits w b 1 < 2 = mod-lt (w / 2 ^ b) (pow-pos 1) in
             omega (arith, borrow.Author.Tests.eqb-false (w / 2 ^ b % 2) 1 p)
-
--- ---- no row
-
-opcode-0 : (w : ℕ) → bitAnd w (set-of (fixed-bit no-row) 64) ≡ fixed no-row → bits w 48 9 ≡ 0
-unfolding places slots modifier-at assigned
-opcode-0 w e =
-    let x = bits w 48 9 in
-    let q : bits (bitAnd w (set-of (fixed-bit no-row) 64)) 48 9 ≡ bitAnd x 511 =
-    ap (λ (n : ℕ). n % 2 ^ 9) (and-shr w (set-of (fixed-bit no-row) 64) 48) ∙ and-mod (w / 2 ^ 48) (set-of (fixed-bit no-row) 64 / 2 ^ 48) 9 in
-    let s : bitAnd x 511 ≡ x = and-mask x 9 ∙ mod-eq-of-lt (mod-lt (w / 2 ^ 48) (pow-pos 9)) in
-    sym (q ∙ s) ∙ ap (λ (n : ℕ). bits n 48 9) e
-
--- a word that fits no row does not agree with the bits of none
-pub disagrees : (w : ℕ) → find rows 0 w ≡ row-count → bitAnd w (set-of (fixed-bit (row-of row-count)) 64) ≡ fixed (row-of row-count) → ⊥
-unfolding rows places slots modifier-at assigned
-disagrees w n e =
-    let o = opcode-0 w e in
-    let f : fits (row-of 0) w ≡ true = rw (eq-eqb (bits w 48 9) 0 o) (eq-eqb (bits w 0 0) 0 (native.Mathlib.Nat.mod-one _)) in
-    omega (arith, n, find-row w 0 (omega arith) f)

@@ -1,7 +1,7 @@
 -- What the tests of a word's line find is what reading the word gives. Assumes nothing.
 use mathlib.Core.Path.{_≡_, refl, sym, ap, ap₂, _∙_, subst}
 use mathlib.Core.Bool.{Bool, true, false, _&&_, _||_, not}
-use mathlib.Core.List.{List, [], _∷_}
+use mathlib.Core.Option.{none, some, Option·map, Option·some-injective, Option·none-ne-some, Option·some-ne-none}
 use Prim.Native.Nat.{ℕ, _+_, _*_, _/_, _%_, _^_, _<_, _≤_}
 use native.Mathlib.Nat.{mod-lt, mod-one, mod-eq-of-lt, div-eq-of-lt, zero-mod}
 use native.Mathlib.Omega.{arith}
@@ -19,25 +19,27 @@ use Rattle.rows.specs.Rows.{Row, rows, row-of, no-row, row-count}
 use Rattle.rows.specs.Layout.{places, slots, modifier-at, find, kind-at, modifier-place, modifier-places, mask-place, flow-place, where-has}
 use Rattle.rows.specs.served.Table.{set-of, fixed-bit, fixed, limits, widths, pairs, shape}
 use Rattle.rows.proofs.TableLaws.{in-table}
-use Rattle.rows.proofs.FindLaws.{find-fits, find-le}
+use Rattle.rows.proofs.FindLaws.{find-fits}
 use Rattle.record.specs.Answers.{refusal}
 use Rattle.record.specs.Lists.{source-list, modifier-list}
 use Rattle.record.specs.Instructions.{number-in, instruction-of}
 use Rattle.record.specs.Legality.{judge-modifiers, judge-sources, judge}
 use Rattle.record.specs.declared.instruction.Instruction.{Instruction}
 use Rattle.record.specs.declared.answer.Refusal.{Refusal}
+use Rattle.lookup.specs.Opcodes.{row-for}
 use Rattle.lookup.specs.served.Lines.{line-of}
 use Rattle.lookup.specs.declared.Line.{Line}
+use Rattle.lookup.proofs.OpcodeLaws.{found-among}
 use Rattle.reader.specs.Reader.{lowest-stray, read-row, read-number}
-use Rattle.reader.specs.served.Judge.{refused, fit-of, Known, Judges, judged-sources}
-use Rattle.reader.specs.served.Windows.{paired, modifiers-ok, refused-modifier}
+use Rattle.reader.specs.served.Judge.{refused, fit-of, Known, Fitted, Judges, judged-sources}
+use Rattle.reader.specs.served.Windows.{modifiers-ok, refused-modifier}
 use Rattle.reader.specs.declared.judge.Fit.{Fit}
 use Rattle.reader.specs.declared.judge.Judged.{Judged}
-use Rattle.reader.specs.declared.judge.Judged.the-variants.{Fits, Refused}
+use Rattle.reader.specs.declared.judge.Judged.the-variants.{Fits}
 use Rattle.reader.proofs.StrayLaws.{stray-le}
-use Rattle.reader.proofs.FixedLaws.{agrees, unstray, disagrees}
+use Rattle.reader.proofs.FixedLaws.{agrees, unstray}
 use Rattle.reader.proofs.WindowLaws.{window-26, lower-26, window-36, lower-36, pair-8, pairs-none, modifiers-so, flow-so, mask-so, window}
-use Rattle.reader.proofs.SourceBytes.{sources-so, low-legal, shape-row}
+use Rattle.reader.proofs.SourceBytes.{sources-so, low-legal}
 
 abbrev Result : Type 0
 Result = Outcome Refusal Instruction
@@ -246,7 +248,28 @@ module _ (w k : ℕ) (ek : find rows 0 w ≡ k) (h : k < row-count) (clean : low
 
 -- ---- the line that is found
 
-module _ (w : ℕ) (hw : w < 2 ^ 64) (l : Line) (el : l ≡ line-of (find rows 0 w)) where
+module _ (w : ℕ) where
+  -- the line that a lookup gives is that of the row that the word fits
+  pub line-fitted : {l : Line} → some l ≡ Option·map line-of (row-for w) → Fitted w l
+  line-fitted {l} e = go (ltb (find rows 0 w) row-count) refl (e ∙ ap (Option·map line-of) (found-among w))
+    where
+      go : (b : Bool) → ltb (find rows 0 w) row-count ≡ b → some l ≡ Option·map line-of (choose b (some (find rows 0 w)) none) → Fitted w l
+      go true p q = record { in-table = ltb-true (find rows 0 w) row-count p; line = Option·some-injective l (line-of (find rows 0 w)) q }
+      go false p q = absurd (Option·some-ne-none l q)
+
+  -- and where it gives none, no row fits: 2
+  pub none-fits : none ≡ Option·map line-of (row-for w) → Judges w (refused 2 0)
+  unfolding read-row _then_
+  none-fits e = go (ltb (find rows 0 w) row-count) refl (e ∙ ap (Option·map line-of) (found-among w))
+    where
+      go : (b : Bool) → ltb (find rows 0 w) row-count ≡ b → none ≡ Option·map line-of (choose b (some (find rows 0 w)) none) → read-number w ≡ refuses (refusal 2 0)
+      go true p q = absurd (Option·none-ne-some (line-of (find rows 0 w)) q)
+      go false p q = rw p
+
+module _ (w : ℕ) (hw : w < 2 ^ 64) (l : Line) (fl : Fitted w l) where
+  abbrev el : l ≡ line-of (find rows 0 w)
+  el = fl .line
+
   abbrev k′ : ℕ
   k′ = find rows 0 w
 
@@ -274,27 +297,17 @@ module _ (w : ℕ) (hw : w < 2 ^ 64) (l : Line) (el : l ≡ line-of (find rows 0
   unfolding line-of
   widths-there = ap (λ (x : Line). x .modifiers) el
 
-  pub row-there : l .shape / 281474976710656 ≡ find rows 0 w
-  row-there = ap (λ (n : ℕ). n / 281474976710656) shape-there ∙ shape-row (find rows 0 w) (find-le w)
-
   mask-same : {m : ℕ} → m ≡ bits (bitOr w (l .shape)) 46 2 → m ≡ bits (bitOr w (shape (row-of (find rows 0 w)) + find rows 0 w * 2 ^ 48)) 46 2
   mask-same em = em ∙ ap (λ (n : ℕ). bits (bitOr w n) 46 2) shape-there
 
   ok-same : modifiers-ok (l .limits) (l .pairs) w ≡ modifiers-ok (limits (row-of (find rows 0 w))) (pairs (row-of (find rows 0 w))) w
   ok-same = ap₂ (λ (a b : ℕ). modifiers-ok a b w) limits-there pairs-there
 
-  -- 2 where there is no row, else 3
-  pub no-row-there : l .shape / 281474976710656 ≡ row-count → Judges w (refused 2 0)
+  -- a word that disagrees with its line has a stray bit: 3
+  pub stray-there : (bitAnd w (l .«fixed_bits») ≡ l .fixed → ⊥) → Judges w (refused 3 0)
   unfolding read-row _then_
-  no-row-there q = rw (sym row-there ∙ q)
-
-  pub stray-there : (bitAnd w (l .«fixed_bits») ≡ l .fixed → ⊥) → (l .shape / 281474976710656 ≡ row-count → ⊥) → Judges w (refused 3 0)
-  unfolding read-row _then_
-  stray-there n m = rw (lt-ltb k′ row-count below, lt-leb 64 (lowest-stray k′ w) stray-lt)
+  stray-there n = rw (lt-ltb k′ row-count (fl .in-table), lt-leb 64 (lowest-stray k′ w) stray-lt)
     where
-      below : find rows 0 w < row-count
-      below = omega (arith, find-le w, row-there, m)
-
       stray-lt : lowest-stray (find rows 0 w) w < 64
       stray-lt = go (ltb (lowest-stray (find rows 0 w) w) 64) refl
         where
@@ -302,36 +315,27 @@ module _ (w : ℕ) (hw : w < 2 ^ 64) (l : Line) (el : l ≡ line-of (find rows 0
           go true q = ltb-true (lowest-stray (find rows 0 w) w) 64 q
           go false q =
               let c : lowest-stray (find rows 0 w) w ≡ 64 = omega (arith, stray-le (find rows 0 w) w, ltb-false (lowest-stray (find rows 0 w) w) 64 q) in
-              absurd (n (ap (bitAnd w) bits-there ∙ agrees (find rows 0 w) below w hw (find-fits w below) c ∙ sym fixed-there))
+              absurd (n (ap (bitAnd w) bits-there ∙ agrees (find rows 0 w) (fl .in-table) w hw (find-fits w (fl .in-table)) c ∙ sym fixed-there))
 
-  -- a word that agrees with its line has a row, and no stray bit
+  -- a word that agrees with its line has no stray bit
   module _ (a : bitAnd w (l .«fixed_bits») ≡ l .fixed) where
     agreed : bitAnd w (set-of (fixed-bit (row-of (find rows 0 w))) 64) ≡ fixed (row-of (find rows 0 w))
     agreed = ap (bitAnd w) (sym bits-there) ∙ a ∙ fixed-there
 
-    pub found-lt : find rows 0 w < row-count
-    found-lt = go (ltb (find rows 0 w) row-count) refl
-      where
-        go : (b : Bool) → ltb (find rows 0 w) row-count ≡ b → find rows 0 w < row-count
-        go true q = ltb-true (find rows 0 w) row-count q
-        go false q =
-            let e : find rows 0 w ≡ row-count = omega (arith, find-le w, ltb-false (find rows 0 w) row-count q) in
-            absurd (disagrees w e (subst (λ (n : ℕ). bitAnd w (set-of (fixed-bit (row-of n)) 64) ≡ fixed (row-of n)) e agreed))
-
     pub found-clean : lowest-stray (find rows 0 w) w ≡ 64
-    found-clean = unstray (find rows 0 w) found-lt w hw agreed
+    found-clean = unstray (find rows 0 w) (fl .in-table) w hw agreed
 
     pub found-known : Known (find rows 0 w) w (fit-of (find rows 0 w) w)
-    found-known = known (find rows 0 w) w found-lt agreed
+    found-known = known (find rows 0 w) w (fl .in-table) agreed
 
     -- what the fields get, by what the tests of the line found
     pub fields-4 : {j : Judged} {x : Bool} {y : ℕ} → x ≡ has 43007 y → y ≡ bits w 59 4 → x ≡ false → j ≡ refused 4 0 → Judges w j
-    fields-4 e q z ej = subst (Judges w) (sym ej) (stop-flow w (find rows 0 w) refl found-lt found-clean (e ∙ ap (has 43007) q) z)
+    fields-4 e q z ej = subst (Judges w) (sym ej) (stop-flow w (find rows 0 w) refl (fl .in-table) found-clean (e ∙ ap (has 43007) q) z)
 
     module _ {x : Bool} {y : ℕ} (e : x ≡ has 43007 y) (q : y ≡ bits w 59 4) (z : x ≡ true) where
       pub fields-5 : {j : Judged} {m : ℕ} → m ≡ bits (bitOr w (l .shape)) 46 2 → m ≡ 0 → j ≡ refused 5 0 → Judges w j
       fields-5 em zm ej =
-          subst (Judges w) (sym ej) (stop-mask w (find rows 0 w) refl found-lt found-clean (e ∙ ap (has 43007) q) z (eq-eqb _ 0 (sym (mask-same em) ∙ zm)))
+          subst (Judges w) (sym ej) (stop-mask w (find rows 0 w) refl (fl .in-table) found-clean (e ∙ ap (has 43007) q) z (eq-eqb _ 0 (sym (mask-same em) ∙ zm)))
 
       module _ {m : ℕ} (em : m ≡ bits (bitOr w (l .shape)) 46 2) (zm : m ≡ 0 → ⊥) where
         mask-ne : eqb (bits (bitOr w (shape (row-of (find rows 0 w)) + find rows 0 w * 2 ^ 48)) 46 2) 0 ≡ false
@@ -340,7 +344,7 @@ module _ (w : ℕ) (hw : w < 2 ^ 64) (l : Line) (el : l ≡ line-of (find rows 0
         pub fields-6 : {j : Judged} {o : Bool} → o ≡ modifiers-ok (l .limits) (l .pairs) w → o ≡ false → j ≡ refused-modifier (l .limits) (l .modifiers) (l .pairs) w → Judges w j
         fields-6 eo zo ej =
             subst (Judges w) (sym (ej ∙ (λ t. refused-modifier (limits-there t) (widths-there t) (pairs-there t) w)))
-            (stop-modifier w (find rows 0 w) refl found-lt found-clean (e ∙ ap (has 43007) q) z mask-ne (sym (eo ∙ ok-same) ∙ zo))
+            (stop-modifier w (find rows 0 w) refl (fl .in-table) found-clean (e ∙ ap (has 43007) q) z mask-ne (sym (eo ∙ ok-same) ∙ zo))
 
         module _ {o : Bool} (eo : o ≡ modifiers-ok (l .limits) (l .pairs) w) (zo : o ≡ true) (f : Fit)
             (ef : f ≡ record { shape = l .shape; sources = bitAnd w (l .shape) % 4294967296; modifiers = l .modifiers }) where
@@ -350,7 +354,7 @@ module _ (w : ℕ) (hw : w < 2 ^ 64) (l : Line) (el : l ≡ line-of (find rows 0
           pub fields-7 : {j : Judged} → j ≡ judged-sources f w → Judges w j
           fields-7 ej =
               subst (Judges w) (sym (ej ∙ ap (λ (x : Fit). judged-sources x w) fit-there))
-              (by-sources w (find rows 0 w) refl found-lt found-clean (e ∙ ap (has 43007) q) z mask-ne (sym (eo ∙ ok-same) ∙ zo) found-known)
+              (by-sources w (find rows 0 w) refl (fl .in-table) found-clean (e ∙ ap (has 43007) q) z mask-ne (sym (eo ∙ ok-same) ∙ zo) found-known)
 
           -- sources that are all below 224 are legal
           pub fields-low : {j : Judged} → ((i : ℕ) → i < 4 → bits (f .sources) (8 * i) 8 < 224) → j ≡ Fits f → Judges w j

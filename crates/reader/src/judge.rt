@@ -1,21 +1,17 @@
-// What a word gets, judged by the line of the row that it fits.
+// What a word gets, judged by the line of the row that it fits. It is compared with no other line.
 ghost use mathlib.Core.Path.{_≡_};
-ghost use mathlib.Core.Bool.{true, _&&_, not};
+ghost use mathlib.Core.Bool.{true};
 ghost use Prim.Native.Nat.{ℕ, _+_, _*_, _/_, _<_};
 ghost use lib.Bits.{bitAnd};
-ghost use lib.Dec.{eqb};
-ghost use Rattle.bits.specs.Fields.{bits, choose};
+ghost use Rattle.bits.specs.Fields.{bits};
 ghost use Rattle.bits.specs.Sets.{has};
-ghost use Rattle.rows.specs.Rows.{rows};
-ghost use Rattle.rows.specs.Layout.{find};
-ghost use Rattle.lookup.specs.served.Lines.{line-of};
-ghost use Rattle.reader.specs.served.Judge.{refused, judged-sources, Judges};
+ghost use Rattle.reader.specs.served.Judge.{refused, refusal-of, judged-sources, Fitted, Judges};
 ghost use Rattle.reader.specs.served.Windows.{modifiers-ok, refused-modifier};
 use bits::fields::bits_at;
+use lookup::Found;
 use lookup::Line;
 use lookup::line_of;
 use record::answer::Refusal;
-use record::instruction::Instruction;
 use rows::sources::source_ok;
 
 // What is known of a word that reads: its row's shape, with the row number from bit 48 up; its sources; the widths of its row's modifiers.
@@ -25,10 +21,11 @@ pub struct Fit {
     pub modifiers: u64,
 }
 
-// What judging a word gives.
+// What judging a word gives. A refusal is number + 2^8 place: as one number it is stored and loaded at one width, which is what the
+// processor can forward.
 pub enum Judged {
     Fits(Fit),
-    Refused(Refusal),
+    Refused(u64),
 }
 
 // The flows that are not reserved.
@@ -37,7 +34,17 @@ const FLOWS: u64 = 0xA7FF;
 fn refuse(number: u8, place: u8) -> Judged
     ensures { λ r. ⌜ r ≡ refused number place ⌝ }
 {
-    Judged::Refused(Refusal { number, place })
+    Judged::Refused(number as u64 + 256 * place as u64)
+}
+
+// The refusal that a judgement's number stands for.
+pub fn refusal_of(code: u64) -> Refusal
+    ensures { λ r. ⌜ r ≡ refusal-of code ⌝ }
+{
+    Refusal {
+        number: bits_at(code, 0, 8) as u8,
+        place: bits_at(code, 8, 8) as u8,
+    }
 }
 
 // Whether a set has v.
@@ -116,7 +123,7 @@ fn judge_sources(f: Fit, w: u64) -> Judged
 
 // What a word gets whose row and bits are right: the first of the refusals 4 to 7, or what is known of it.
 fn judge_fields(l: Line, w: u64) -> Judged
-    requires { ⌜ (l ≡ line-of (find rows 0 w)) × (bitAnd w (l .«fixed_bits») ≡ l .fixed) ⌝ }
+    requires { ⌜ Fitted w l × (bitAnd w (l .«fixed_bits») ≡ l .fixed) ⌝ }
     ensures { λ r. ⌜ Judges w r ⌝ }
 {
     if !has(FLOWS, bits_at(w, 59, 4)) {
@@ -144,12 +151,13 @@ fn judge_fields(l: Line, w: u64) -> Judged
 pub fn judge_word(w: u64) -> Judged
     ensures { λ r. ⌜ Judges w r ⌝ }
 {
-    let l = line_of(w);
-    if w & l.fixed_bits == l.fixed {
-        return judge_fields(l, w);
+    match line_of(w) {
+        Found::Line(l) => {
+            if w & l.fixed_bits == l.fixed {
+                return judge_fields(l, w);
+            }
+            refuse(3, 0)
+        }
+        Found::None => refuse(2, 0),
     }
-    if l.shape / 281474976710656 == Instruction::ROWS as u64 {
-        return refuse(2, 0);
-    }
-    refuse(3, 0)
 }

@@ -1,7 +1,6 @@
 // Reading words.
 ghost use mathlib.Core.Path.{_≡_};
 ghost use Prim.Native.Nat.{ℕ};
-ghost use Rattle.record.specs.Lists.{sources-of};
 ghost use Rattle.record.specs.Instructions.{instruction-of};
 ghost use Rattle.reader.specs.Reader.{read-number, read};
 ghost use Rattle.reader.specs.Answers.{reading};
@@ -10,6 +9,7 @@ use crate::answer::Reading;
 use crate::judge::Fit;
 use crate::judge::Judged;
 use crate::judge::judge_word;
+use crate::judge::refusal_of;
 use bits::bytes::load64;
 use bits::fields::bits_at;
 use record::answer::Refusal;
@@ -59,7 +59,7 @@ pub fn read_number(w: u64) -> Reading
 {
     match judge_word(w) {
         Judged::Fits(f) => Reading::Read(instruction_of(f, w)),
-        Judged::Refused(r) => Reading::Refused(r),
+        Judged::Refused(code) => Reading::Refused(refusal_of(code)),
     }
 }
 

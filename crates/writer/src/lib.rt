@@ -11,6 +11,7 @@ use crate::word::word_of;
 use bits::bytes::store64;
 use reader::judge::Judged;
 use reader::judge::judge_word;
+use reader::judge::refusal_of;
 use reader::read_number;
 use record::answer::Refusal;
 use record::instruction::Instruction;
@@ -45,7 +46,7 @@ pub fn write_buffer(i: Instruction, buffer: &mut [u8]) -> Written
     }
     let w = word_of(v, i);
     match judge_word(w) {
-        Judged::Refused(f) => Written::Refused(f),
+        Judged::Refused(code) => Written::Refused(refusal_of(code)),
         Judged::Fits(_) => {
             if !is_record(read_number(w), i) {
                 return refused(15);

@@ -1,5 +1,5 @@
-//! Paper 01 in plain Rust: the word reader and writer, the parcel, the check; and paper 02's
-//! maker of notes.
+//! Paper 01 in plain Rust: the word reader and writer, the parcel, the check; and of paper 02
+//! the maker of notes and the rows of an opcode.
 //!
 //! Written from the papers alone, with tables of its own, so that it can stand beside the
 //! verified library in differential tests and as a baseline for its speed. Nothing here
@@ -20,4 +20,4 @@ pub use codec::{Instruction, fresh, read, write};
 pub use infer::{Fault, Narrowed, infer, narrow};
 pub use parcel::{HEADER, MAX_COUNT, Parcel};
 pub use refusal::Refusal;
-pub use rows::{MODIFIER_BITS, MODIFIERS, Modifier, ROW_COUNT, ROWS, Row, Secondary};
+pub use rows::{MODIFIER_BITS, MODIFIERS, Modifier, ROW_COUNT, ROWS, Row, Secondary, row_of};

@@ -256,3 +256,18 @@ pub(crate) const TABLE: [Row; ROW_COUNT] = [
     icmp("ICMP_OR.v2s16", 0xF9, OR, W16),
     icmp("ICMP_OR.v4s8", 0xFA, OR, W8),
 ];
+
+/// The k-th row that has the opcode, counted from 0 in row order.
+pub fn row_of(opcode: u64, k: u64) -> Option<u8> {
+    let mut left = k;
+    for (row, line) in ROWS.iter().enumerate() {
+        if u64::from(line.opcode) != opcode {
+            continue;
+        }
+        if left == 0 {
+            return Some(row as u8);
+        }
+        left -= 1;
+    }
+    None
+}

@@ -3,6 +3,8 @@
 
 use inputs::Rng;
 use reference::{Fault, Instruction, Refusal, Verdict};
+use std::path::{Path, PathBuf};
+use std::process::Command;
 use vsp::{FORM, Form, raw};
 
 /// Room on both sides of a lent buffer, to see writes that go astray.
@@ -37,6 +39,24 @@ impl Tally {
         let others: u64 = (0..=255).filter(|number| !numbers.contains(number)).map(|n| self.0[n as usize]).sum();
         assert_eq!(others, 0, "answers other than {numbers:?}");
     }
+}
+
+/// Compiles a C example, with warnings as errors, under a name of the test's own.
+pub fn compile(source: &str, name: &str) -> PathBuf {
+    let root = Path::new(env!("CARGO_MANIFEST_DIR")).join("..");
+    let program = PathBuf::from(env!("CARGO_TARGET_TMPDIR")).join(name);
+    let compiler = std::env::var_os("CC").unwrap_or_else(|| "cc".into());
+    let output = Command::new(compiler)
+        .args(["-std=c99", "-pedantic", "-Wall", "-Wextra", "-Werror", "-O2", "-I"])
+        .arg(root.join("include"))
+        .arg(root.join("examples").join(source))
+        .arg(env!("VSP_LIBRARY"))
+        .arg("-o")
+        .arg(&program)
+        .output()
+        .unwrap();
+    assert!(output.status.success(), "{}", String::from_utf8_lossy(&output.stderr));
+    program
 }
 
 /// Number + 2^8 place.

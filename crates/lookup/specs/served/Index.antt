@@ -1,65 +1,51 @@
--- The index by which a word's line is found: the opcode's hash leads to a group, and the secondary opcode from there to a cell.
+-- The index by which a word's line is found: the opcode's slot leads to a group, and the secondary opcode from there to a cell.
 use mathlib.Core.List.{List, [], _∷_}
-use Prim.Native.Nat.{ℕ, _+_, _*_, _/_, _%_, _^_}
+use Prim.Native.Nat.{ℕ, _/_, _%_, _^_}
 use lib.Bits.{bitAnd}
-use lib.Dec.{eqb}
-use Rattle.bits.specs.Fields.{choose}
 use Rattle.rows.specs.Rows.{row-count}
+use Rattle.lookup.specs.served.Keyed.{Keyed, keyed, lookup}
 use Rattle.lookup.specs.declared.Group.{Group}
 
--- a value that is found under a key
-pub record Keyed (A : Type 0) : Type 0 where
-  pub key : ℕ
-  pub value : A
-
-abbrev pub keyed : {A : Type 0} → ℕ → A → Keyed A
-keyed k a = record { key = k; value = a }
-
--- what is found under a key, or else d
-abbrev pub lookup : {A : Type 0} → A → List (Keyed A) → ℕ → A
-lookup d [] k = d
-lookup d (x ∷ xs) k = choose (eqb k (x .key)) (x .value) (lookup d xs k)
-
 abbrev pub group : ℕ → ℕ → ℕ → ℕ → Group
-group opcode low mask cell = record { opcode = opcode; low = low; mask = mask; cell = cell }
+group low mask seconds cell = record { low = low; mask = mask; seconds = seconds; cell = cell }
 
 -- a cell that has no row
 abbrev pub empty : ℕ
 empty = 255
 
--- the groups by hash
+-- the groups by slot
 abbrev pub groups : List (Keyed Group)
 groups =
-    keyed 0 (group 0x00 0 0 0)
-    ∷ keyed 3 (group 0xF5 24 3 170)
-    ∷ keyed 4 (group 0x98 16 15 53)
-    ∷ keyed 6 (group 0xA4 16 15 85)
-    ∷ keyed 10 (group 0xBC 24 15 120)
-    ∷ keyed 11 (group 0xA5 16 15 101)
-    ∷ keyed 14 (group 0x154 0 0 3)
-    ∷ keyed 19 (group 0x155 0 0 4)
-    ∷ keyed 20 (group 0xF8 24 3 174)
-    ∷ keyed 24 (group 0x90 16 31 5)
-    ∷ keyed 25 (group 0xF9 24 3 178)
-    ∷ keyed 26 (group 0x9C 16 15 69)
-    ∷ keyed 29 (group 0x91 16 15 37)
-    ∷ keyed 31 (group 0xFA 24 3 182)
-    ∷ keyed 32 (group 0xC0 0 0 136)
-    ∷ keyed 37 (group 0xC1 0 0 137)
-    ∷ keyed 40 (group 0xF0 24 3 154)
-    ∷ keyed 42 (group 0x1F 0 0 1)
-    ∷ keyed 43 (group 0xC2 24 15 138)
-    ∷ keyed 45 (group 0xF1 24 3 158)
-    ∷ keyed 48 (group 0x20 0 0 2)
-    ∷ keyed 51 (group 0xF2 24 3 162)
-    ∷ keyed 52 (group 0xB8 0 0 117)
-    ∷ keyed 57 (group 0xB9 0 0 118)
-    ∷ keyed 62 (group 0xF4 24 3 166)
-    ∷ keyed 63 (group 0xBA 0 0 119)
+    keyed 1 (group 0 0 0x1 0)
+    ∷ keyed 3 (group 0 0 0x1 1)
+    ∷ keyed 5 (group 0 0 0x1 2)
+    ∷ keyed 7 (group 16 31 0x56BFFEBF 5)
+    ∷ keyed 8 (group 16 15 0x7771 37)
+    ∷ keyed 9 (group 16 15 0x3 53)
+    ∷ keyed 10 (group 16 15 0xF575 69)
+    ∷ keyed 12 (group 16 15 0x1 85)
+    ∷ keyed 13 (group 16 15 0x1 101)
+    ∷ keyed 15 (group 0 0 0x1 117)
+    ∷ keyed 16 (group 0 0 0x1 118)
+    ∷ keyed 17 (group 0 0 0x1 119)
+    ∷ keyed 18 (group 24 15 0x3 120)
+    ∷ keyed 20 (group 0 0 0x1 136)
+    ∷ keyed 21 (group 0 0 0x1 137)
+    ∷ keyed 22 (group 24 15 0x3 138)
+    ∷ keyed 24 (group 24 3 0x3 154)
+    ∷ keyed 25 (group 24 3 0x3 158)
+    ∷ keyed 26 (group 24 3 0x3 162)
+    ∷ keyed 27 (group 24 3 0x3 166)
+    ∷ keyed 28 (group 24 3 0x3 170)
+    ∷ keyed 29 (group 24 3 0x1 174)
+    ∷ keyed 30 (group 24 3 0x1 178)
+    ∷ keyed 31 (group 24 3 0x1 182)
+    ∷ keyed 33 (group 0 0 0x1 3)
+    ∷ keyed 34 (group 0 0 0x1 4)
     ∷ []
 
 unfoldable pub group-at : ℕ → Group
-group-at hash = lookup (group 512 0 0 empty) groups hash
+group-at slot = lookup (group 0 0 0 empty) groups slot
 
 -- the row numbers by cell
 abbrev pub cells : List (Keyed ℕ)
@@ -147,13 +133,6 @@ cells =
 unfoldable pub row-under : ℕ → ℕ
 row-under cell = lookup row-count cells cell
 
--- the group of an opcode, and the cell of a word in a group
-abbrev pub group-of : ℕ → Group
-group-of opcode = group-at (opcode * 11 / 2 % 64)
-
-abbrev pub cell-in : Group → ℕ → ℕ
-cell-in g w = g .cell + bitAnd (w / 2 ^ (g .low % 64)) (g .mask)
-
--- where a word leads: to a cell of its opcode's group, or to an empty one
-abbrev pub cell-of : Group → ℕ → ℕ → ℕ
-cell-of g opcode w = choose (eqb opcode (g .opcode)) (cell-in g w) empty
+-- a word's secondary opcode, where the group says that it stands
+abbrev pub second-of : Group → ℕ → ℕ
+second-of g w = bitAnd (w / 2 ^ (g .low % 64)) (g .mask)

@@ -1,5 +1,5 @@
 use mathlib.Core.Path.{sym, ap, _∙_, subst}
-use Rattle.bits.specs.Outcomes.{gives}
+use Rattle.bits.specs.Outcomes.{gives, refuses}
 use Rattle.reader.specs.served.Judge.{Judges}
 use borrow.Author.Needs.{needs}
 use Rattle.reader.proofs.read_number.Statement.{statement}
@@ -8,6 +8,7 @@ use Rattle.reader.proofs.read_number.Reads as reads
 use Rattle.reader.proofs.read_number.Lts as lts
 use Rattle.reader.proofs.instruction_of.Reads as instruction-of-reads
 use Rattle.reader.proofs.judge.judge_word.Reads as judge-word-reads
+use Rattle.reader.proofs.judge.refusal_of.Reads as refusal-of-reads
 
 judge-word-requires : tie.Need-judge-word-requires
 judge-word-requires c κs = search needs
@@ -20,8 +21,11 @@ instruction-of-requires c κs =
     let e = subst (Judges (c .before .before .before .before .args .w)) (c .before .f .given .1) (c .before .before .before .judge-word .ensures) in
     (e .0, e .1 .0)
 
-enum-known-r : tie.Need-enum-known-r
-enum-known-r c = search needs
+enum-known-code : tie.Need-enum-known-code
+enum-known-code c = search needs
+
+refusal-of-requires : tie.Need-refusal-of-requires
+refusal-of-requires c κs = search needs
 
 returns : tie.Need-returns
 returns c =
@@ -29,7 +33,9 @@ returns c =
     ap gives (c .instruction-of .ensures (e .0) (e .1 .0)) ∙ sym (e .1 .1)
 
 returns-2 : tie.Need-returns-2
-returns-2 c = sym (subst (Judges (c .before .before .before .before .args .w)) (c .before .r .given .1) (c .before .before .before .judge-word .ensures))
+returns-2 c =
+    ap refuses (c .refusal-of .ensures)
+    ∙ sym (subst (Judges (c .before .before .before .before .before .args .w)) (c .before .before .code .given .1) (c .before .before .before .before .judge-word .ensures))
 
 pub read-number-spec : {M : Type 1} → statement M
 read-number-spec =
@@ -38,6 +44,7 @@ read-number-spec =
     judge-word-requires
     enum-known-f
     instruction-of-requires
-    enum-known-r
+    enum-known-code
+    refusal-of-requires
     returns
     returns-2)

@@ -1,25 +1,37 @@
 -- What judging a word finds.
 use mathlib.Core.Path.{_≡_}
 use mathlib.Core.List.{[], _∷_}
-use Prim.Native.Nat.{ℕ, _+_, _*_, _/_, _%_, _^_, _<_}
+use Prim.Native.Nat.{ℕ, _+_, _*_, _%_, _^_, _<_}
 use lib.Bits.{bitAnd}
 use Rattle.bits.specs.Fields.{bits, choose}
 use Rattle.bits.specs.Outcomes.{gives, refuses}
 use Rattle.rows.specs.Sources.{source-legal}
-use Rattle.rows.specs.Rows.{row-of, row-count}
-use Rattle.rows.specs.Layout.{register-place, mask-place}
+use Rattle.rows.specs.Rows.{rows, row-of, row-count}
+use Rattle.rows.specs.Layout.{find, register-place, mask-place}
 use Rattle.rows.specs.served.Table.{shape, widths}
 use Rattle.record.specs.Instructions.{number-in, instruction-of}
 use Rattle.record.specs.Lists.{sources-of}
 use Rattle.record.specs.Answers.{refusal}
+use Rattle.record.specs.declared.answer.Refusal.{Refusal}
 use Rattle.record.specs.declared.instruction.Sources.{Sources}
+use Rattle.lookup.specs.served.Lines.{line-of}
+use Rattle.lookup.specs.declared.Line.{Line}
 use Rattle.reader.specs.Reader.{read-number}
 use Rattle.reader.specs.declared.judge.Fit.{Fit}
 use Rattle.reader.specs.declared.judge.Judged.{Judged}
 use Rattle.reader.specs.declared.judge.Judged.the-variants.{Fits, Refused}
 
+-- a refusal as one number, and the refusal that it stands for
 abbrev pub refused : ℕ → ℕ → Judged
-refused n p = Refused (refusal n p)
+refused n p = Refused (n + 256 * p)
+
+abbrev pub refusal-of : ℕ → Refusal
+refusal-of c = refusal (bits c 0 8) (bits c 8 8)
+
+-- l is the line of the row that the word fits
+pub record Fitted (w : ℕ) (l : Line) : Type 0 where
+  pub in-table : find rows 0 w < row-count
+  pub line : l ≡ line-of (find rows 0 w)
 
 -- what is known of a word of row k
 abbrev pub fit-of : ℕ → ℕ → Fit
@@ -40,7 +52,7 @@ pub record Known (k w : ℕ) (f : Fit) : Type 0 where
 -- the judgement is what reading the word gives
 abbrev pub Judges : ℕ → Judged → Type 0
 Judges w (Fits f) = (k : ℕ) × (Known k w f × (read-number w ≡ gives (instruction-of k w)))
-Judges w (Refused r) = read-number w ≡ refuses r
+Judges w (Refused c) = read-number w ≡ refuses (refusal-of c)
 
 -- what is known stays, if the four sources are legal on the word's page
 unfoldable pub judged-sources : Fit → ℕ → Judged

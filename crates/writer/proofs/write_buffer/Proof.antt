@@ -2,7 +2,7 @@ use mathlib.Core.Path.{refl, sym, ap, _∙_, subst}
 use native.Mathlib.Omega.{arith}
 use denote.Ref.{now}
 use borrow.Author.Tests.{not-true, not-false}
-use Rattle.bits.specs.Outcomes.{Outcome}
+use Rattle.bits.specs.Outcomes.{Outcome, refuses}
 use Rattle.record.specs.declared.instruction.Instruction.{Instruction}
 use Rattle.record.specs.declared.answer.Refusal.{Refusal}
 use Rattle.reader.specs.served.Judge.{Judges}
@@ -15,6 +15,7 @@ use Rattle.writer.proofs.write_buffer.Reads as reads
 use Rattle.writer.proofs.write_buffer.Lts as lts
 use Rattle.bits.proofs.bytes.store64.Reads as store64-reads
 use Rattle.reader.proofs.judge.judge_word.Reads as judge-word-reads
+use Rattle.reader.proofs.judge.refusal_of.Reads as refusal-of-reads
 use Rattle.reader.proofs.read_number.Reads as read-number-reads
 use Rattle.rows.proofs.table.row_at.Reads as row-at-reads
 use Rattle.writer.proofs.refused.Reads as refused-reads
@@ -71,8 +72,11 @@ word-of-requires c κs =
 judge-word-requires : tie.Need-judge-word-requires
 judge-word-requires c κs = search needs
 
-enum-known-f : tie.Need-enum-known-f
-enum-known-f c = search needs
+enum-known-code : tie.Need-enum-known-code
+enum-known-code c = search needs
+
+refusal-of-requires : tie.Need-refusal-of-requires
+refusal-of-requires c κs = search needs
 
 enum-told : tie.Need-enum-told
 enum-told c = search needs
@@ -98,9 +102,14 @@ store64-requires c κs = search needs
 
 returns-5 : tie.Need-returns-5
 returns-5 c =
-    let i = c .before .before .before .before .before .before .before .before .before .before .before .before .before .args .i in
-    let bs = now (c .before .before .before .before .before .before .before .before .before .before .before .before .before .args .buffer) in
-    declined i bs (c .before .before .before .before .before .before .before .before .before .before .before .if1 .left) (omega (arith, c .before .before .before .before .before .before .before .before .before .if2 .left)) (c .before .before .before .before .before .before .numbers-fit .ensures) (not-false _ (c .before .before .before .before .before .if3 .left)) (c .before .before .before .before .word-of .ensures) refl (subst (Judges (c .before .before .before .before .word-of .result)) (c .before .f .given .1) (c .before .before .before .judge-word .ensures))
+    let f = c .before .before in
+    let j = f .before .before in
+    let w = j .before in
+    let n = w .before .before in
+    let t = n .before .before .before in
+    let b = t .before .before in
+    declined (b .before .before .args .i) (now (b .before .before .args .buffer)) (b .if1 .left) (omega (arith, t .if2 .left)) (n .numbers-fit .ensures) (not-false _ (w .before .if3 .left)) (w .word-of .ensures) refl
+    (subst (Judges (w .word-of .result)) (f .code .given .1) (j .judge-word .ensures) ∙ ap refuses (sym (c .refusal-of .ensures)))
 
 same-length : tie.Need-same-length
 same-length c = search needs
@@ -127,7 +136,8 @@ write-buffer-spec =
     returns-3
     word-of-requires
     judge-word-requires
-    enum-known-f
+    enum-known-code
+    refusal-of-requires
     enum-told
     read-number-requires
     is-record-requires

@@ -1,7 +1,11 @@
 use mathlib.Core.Path.{_≡_, sym, subst}
-use Prim.Native.Nat.{_<_, _^_}
+use mathlib.Core.Option.{Option·map}
+use Prim.Native.Nat.{ℕ, _<_, _^_}
+use Rattle.lookup.specs.Opcodes.{row-for}
+use Rattle.lookup.specs.served.Lines.{line-of, line-found}
+use Rattle.lookup.specs.declared.Found.{Found}
 use Rattle.reader.specs.served.Judge.{Judges}
-use Rattle.reader.proofs.JudgeLaws.{no-row-there, stray-there}
+use Rattle.reader.proofs.JudgeLaws.{line-fitted, none-fits, stray-there}
 use borrow.Author.Needs.{needs}
 use Rattle.reader.proofs.judge.judge_word.Statement.{statement}
 use Rattle.reader.proofs.judge.judge_word.Tie as tie
@@ -11,11 +15,22 @@ use Rattle.lookup.proofs.line_of.Reads as line-of-reads
 use Rattle.reader.proofs.judge.judge_fields.Reads as judge-fields-reads
 use Rattle.reader.proofs.judge.refuse.Reads as refuse-reads
 
+-- what a word was led to
+Led : ℕ → Found → Type 0
+Led w f = line-found f ≡ Option·map line-of (row-for w)
+
 line-of-requires : tie.Need-line-of-requires
 line-of-requires c κs = search needs
 
+enum-known-l : tie.Need-enum-known-l
+enum-known-l c = search needs
+
 judge-fields-requires : tie.Need-judge-fields-requires
-judge-fields-requires c κs = search needs
+unfolding Led
+judge-fields-requires c κs =
+    let k = c .before .before .before in
+    let a = k .before .before .before .before in
+    (line-fitted (a .args .w) (subst (Led (a .args .w)) (k .before .l .given .1) (k .before .before .before .line-of .ensures .0)), c .if1 .taken)
 
 returns : tie.Need-returns
 returns c = search needs
@@ -23,29 +38,38 @@ returns c = search needs
 refuse-requires : tie.Need-refuse-requires
 refuse-requires c κs = search needs
 
-returns-2 : tie.Need-returns-2
-returns-2 c =
-    let w = c .before .before .before .before .before .before .before .args .w in
-    let hw : w < 2 ^ 64 = search needs in
-    subst (Judges w) (sym (c .refuse .ensures)) (no-row-there w hw (c .before .before .before .before .before .before .line-of .result) (c .before .before .before .before .before .before .line-of .ensures) (c .before .if2 .taken))
+enum-told : tie.Need-enum-told
+enum-told c = search needs
 
 refuse-requires-2 : tie.Need-refuse-requires-2
 refuse-requires-2 c κs = search needs
 
+returns-2 : tie.Need-returns-2
+unfolding Led
+returns-2 c =
+    let k = c .before .before .before .before in
+    let a = k .before .before .before .before in
+    let hw : a .args .w < 2 ^ 64 = search needs in
+    let f = line-fitted (a .args .w) (subst (Led (a .args .w)) (k .before .l .given .1) (k .before .before .before .line-of .ensures .0)) in
+    subst (Judges (a .args .w)) (sym (c .refuse .ensures)) (stray-there (a .args .w) hw _ f (c .before .if1 .left))
+
 returns-3 : tie.Need-returns-3
+unfolding Led
 returns-3 c =
-    let w = c .before .before .before .before .before .before .before .args .w in
-    let hw : w < 2 ^ 64 = search needs in
-    subst (Judges w) (sym (c .refuse2 .ensures)) (stray-there w hw (c .before .before .before .before .before .before .line-of .result) (c .before .before .before .before .before .before .line-of .ensures) (c .before .before .before .if1 .left) (c .before .if2 .left))
+    let k = c .before in
+    let a = k .before .before .before in
+    subst (Judges (a .args .w)) (sym (c .refuse2 .ensures)) (none-fits (a .args .w) (subst (Led (a .args .w)) (k .enum-told .given .1) (k .before .before .line-of .ensures .0)))
 
 pub judge-word-spec : {M : Type 1} → statement M
 judge-word-spec =
     tie.close
     (tie.spec
     line-of-requires
+    enum-known-l
     judge-fields-requires
     returns
     refuse-requires
-    returns-2
+    enum-told
     refuse-requires-2
+    returns-2
     returns-3)
