@@ -9,8 +9,8 @@
  * Every function is total: it returns for every input, allocates nothing, keeps no state
  * and touches no memory but the buffers it is given; calls from several threads are fine. A
  * pointer that comes with a length must be good for that many bytes, a form for 32; none is
- * null, even where the length is 0, and a buffer that is written to overlaps no other. No
- * alignment is asked for.
+ * null, even where the length is 0, and a buffer that is written to overlaps no other. Bytes
+ * need no alignment; an array of uint64_t is aligned as every uint64_t is.
  *
  * Numbers of refusals; place is 0 but for 6 and 7, and 14 and 15 are never given:
  *    1  a word to read that isn't 8 bytes long
@@ -87,6 +87,14 @@ extern "C" {
 /* From vsp_row_of: the opcode has no such row. */
 #define VSP_NO_ROW 255
 
+/* From vsp_diff_line: the list has no such line. */
+#define VSP_FEWER 255
+
+/* The numbers of a line of differences; no list has more lines than this; their numbers. */
+#define VSP_DIFF_LINE 3
+#define VSP_DIFF_LINES 47105
+#define VSP_DIFF_NUMBERS (VSP_DIFF_LINE * VSP_DIFF_LINES)
+
 /* The bytes of a form. */
 enum {
     VSP_ROW = 0,
@@ -99,10 +107,24 @@ enum {
     VSP_OFFSET = 24
 };
 
+/* What a line of differences tells of. */
+enum {
+    VSP_DIFF_ROW = 0,
+    VSP_DIFF_PAGE = 1,
+    VSP_DIFF_FLOW = 2,
+    VSP_DIFF_DESTINATION = 3,
+    VSP_DIFF_SOURCE = 4,
+    VSP_DIFF_MODIFIER = 5,
+    VSP_DIFF_ADDED = 6,
+    VSP_DIFF_REMOVED = 7,
+    VSP_DIFF_ENTRY = 8,
+    VSP_DIFF_NOTE = 9
+};
+
 /*
  * The parts of an answer, but for vsp_row_of, which gives a row; place, index and register
- * mean something only where the number isn't 0, and the last two are for vsp_check and
- * vsp_infer only.
+ * mean something only where the number isn't 0 (nor the answer VSP_FEWER), and the last two
+ * aren't for vsp_read, vsp_write and vsp_fresh.
  */
 #define VSP_NUMBER(answer) ((unsigned)((answer) & 0xFF))
 #define VSP_PLACE(answer) ((unsigned)((answer) >> 8 & 0xFF))
@@ -110,6 +132,18 @@ enum {
 #define VSP_REGISTER_OF(verdict) ((unsigned)((uint64_t)(verdict) >> 32 & 0xFF))
 /* For vsp_infer, where the number is 0. */
 #define VSP_SWEEPS(answer) ((unsigned)((uint64_t)(answer) >> 16 & 0xFFFF))
+/* For vsp_diff_lines, where the number is 0. */
+#define VSP_LINES(answer) ((size_t)((uint64_t)(answer) >> 16))
+/* For vsp_diff_line and vsp_diff_lines, where a parcel is refused: 1 the first, 2 the second. */
+#define VSP_PARCEL(answer) ((unsigned)((uint64_t)(answer) >> 48 & 0xFF))
+
+/*
+ * The parts of the first number of a line: what it tells of; for a source its index, for a
+ * modifier its lowest bit; the index of the instruction.
+ */
+#define VSP_DIFF_WHAT(number) ((unsigned)((number) & 0xFF))
+#define VSP_DIFF_WHICH(number) ((unsigned)((number) >> 8 & 0xFF))
+#define VSP_DIFF_INDEX(number) ((unsigned)((uint64_t)(number) >> 16 & 0xFFFF))
 
 /*
  * Opens a parcel, reads all its words and checks its notes. Writes nothing.
@@ -143,7 +177,7 @@ uint64_t vsp_check(const uint8_t *parcel, size_t length);
  * worth nothing.
  *
  * Where it proposes notes it fills the buffer with them and gives 2^16 times the number of
- * sweeps, so VSP_NUMBER of it is 0. Then vsp_check accepts the parcel of this entry set, these
+ * sweeps, so that the number is 0. Then vsp_check accepts the parcel of this entry set, these
  * words and these notes. Each note names every register that the same note names in any notes
  * that vsp_check would accept for these words and this entry set. Where every instruction lies
  * on some way through the program, it names just the registers that are held whichever way the
@@ -193,6 +227,61 @@ uint32_t vsp_fresh(size_t row, uint8_t form[VSP_FORM]);
  * most. vsp_read compares a word with the rows of its opcode and with no others.
  */
 uint32_t vsp_row_of(uint64_t opcode, uint64_t k);
+
+/*
+ * Gives line k, counted from 0, of the list of what differs between two parcels, the approved
+ * one first, for any k.
+ *
+ * The list. For each instruction that both parcels have, in order, a line for each field that
+ * differs, in the order row, page, flow, destination, sources 0 to 3, modifiers by their lowest
+ * bit. Then a line for each instruction that only the longer parcel has. Then one for the entry
+ * sets if they differ. Then one for each instruction that both have whose notes differ. Nothing
+ * else, so notes of instructions that only one has aren't told. The list is empty exactly where
+ * the two parcels have the same bytes.
+ *
+ * A line is three numbers: what + 2^8 which + 2^16 index, the content in the first parcel, the
+ * content in the second.
+ *    what              which         contents
+ *    0  row            0             the row numbers
+ *    1  page           0
+ *    2  flow           0
+ *    3  destination    0             bits 40 to 47 as one: register + 64 half mask
+ *    4  source         0 to 3        the source's byte
+ *    5  modifier       lowest bit    8, 10, 11, 24, 26, 28, 30, 32, 34 to 39; a branch offset
+ *                                    is the modifier at bit 8, as its raw 27 bits
+ *    6  added          0             0, and the word that only the second parcel has
+ *    7  removed        0             the word that only the first parcel has, and 0
+ *    8  entry set      0             the sets, bit r for register r; the index is 0
+ *    9  note           0             the notes, bit r for register r
+ * A content is 0 where the row has no such field. Where the rows differ, modifiers with the
+ * same lowest bit are one field, whatever each row calls it, and there is no line where their
+ * contents are the same.
+ *
+ * Gives 0 and the line's three numbers, or VSP_FEWER where the list has no line k. Where a
+ * parcel doesn't open or one of its words isn't legal it gives number + 2^8 place + 2^16 index
+ * + 2^32 register + 2^48 parcel, the same for every k: 10 to 13 with index 0, or 2 to 7 for the
+ * lowest word that isn't legal, with its index; the register is 64; parcel is 1 for the first
+ * and 2 for the second, and the first one is judged before the second is looked at. Where it
+ * doesn't give 0 it leaves the three numbers as they were.
+ *
+ * The notes are compared and not checked: that two parcels are equal doesn't mean that
+ * vsp_check accepts them. Each call goes through the list from its front; vsp_diff_lines gives
+ * all of it at once.
+ */
+uint64_t vsp_diff_line(const uint8_t *first, size_t first_length, const uint8_t *second,
+                       size_t second_length, size_t k, uint64_t line[VSP_DIFF_LINE]);
+
+/*
+ * Gives the whole list of vsp_diff_line.
+ *
+ * Gives 2^16 times how many lines there are, so that the number is 0, and puts the lines, three
+ * numbers each, at the front of the buffer, whose other numbers stay. Where a parcel is refused
+ * it gives what vsp_diff_line gives and leaves the whole buffer as it was. The buffer has room
+ * for any list, some 1.1 MB: 23 lines for each of 2048 instructions, and one for the entry
+ * sets.
+ */
+uint64_t vsp_diff_lines(const uint8_t *first, size_t first_length, const uint8_t *second,
+                        size_t second_length, uint64_t lines[VSP_DIFF_NUMBERS]);
 
 #ifdef __cplusplus
 }

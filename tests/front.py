@@ -1,4 +1,4 @@
-"""What the shell front says about parcels and words: which parcels to try it on, and what it must write on standard error.
+"""What the shell front says about parcels, words and two parcels: which parcels to try it on, and what it must write on standard error.
 
     front.py parcels FOLDER               writes NAME.vsp, and NAME.out, what the lister must write
     front.py sentences PARCELS FOLDER     for each NAME.vsp in PARCELS writes FOLDER/NAME.err, the sentences
@@ -6,7 +6,7 @@
 Verdicts, places and entry sets are worked out from the paper (paper01.py)."""
 import os
 import sys
-from paper01 import check, listing, members, opening, parcel, row_number, word
+from paper01 import check, difference_text, differences, listing, members, opening, parcel, parts, row_number, verdict_line, word
 
 B = 0x7800000000000000  # NOP, end
 FIVE = parcel([0, 0, 0, 0, B], [[]] * 5, [])
@@ -142,12 +142,56 @@ def answer(data, result):
     else:
         why = meaning(data, number, place, index, register, start=0)
     hint = 'vsp: this file begins with the letters VSP, as a parcel does; notes takes the words alone.\n' if data[:3] == b'VSP' else ''
-    return f'REFUSED {number:02d} {index:04d} {register:02d}\nvsp: refused with {number}: {why}.\n{hint}'
+    return f'{verdict_line(number, place, index, register)}\nvsp: refused with {number}: {why}.\n{hint}'
+
+
+def summary(lines, shared):
+    """What diff says of a list of differences between parcels that have `shared` instructions in common."""
+    counts = {what: sum(line[1] == what for line in lines) for what in ('added', 'removed', 'entry', 'note')}
+    changed = len({index for index, what, _, _ in lines if what not in counts})
+    said = []
+
+    def instructions(count):
+        if any('instruction' in part for part in said):
+            return str(count)
+        return f'{count} instruction{"" if count == 1 else "s"}'
+    if changed:
+        common = f'the {instructions(shared)} that both have' if counts['added'] or counts['removed'] else instructions(shared)
+        said.append(f'{common} differs' if shared == 1 else f'{changed} of {common} differ{"s" if changed == 1 else ""}')
+    for what in ('added', 'removed'):
+        if counts[what]:
+            said.append(f'{instructions(counts[what])} {what}')
+    if counts['entry']:
+        said.append('the entry sets differ')
+    if counts['note']:
+        said.append(f'the note of {instructions(1)} differs' if counts['note'] == 1 else f'the notes of {instructions(counts["note"])} differ')
+    return '; '.join(said) or 'nothing differs: the two parcels are the same, byte for byte'
+
+
+def comparison(first, second, names):
+    """What diff does with two parcels in files of these names: the status, what it writes on standard output, and on standard error."""
+    kind, *rest = differences(first, second)
+    if kind == 'refused':
+        which, *verdict = rest
+        name, role, data = (names[0], 'approved', first) if which == 'first' else (names[1], 'delivered', second)
+        return 2, '', f'vsp: {name}, the {role} parcel, cannot be compared: {verdict_line(*verdict)}\n' \
+            f'vsp: refused with {verdict[0]}: {meaning(data, *verdict)}.\n'
+    [lines] = rest
+    shared = min(len(parts(data)[1]) for data in (first, second))
+    return int(bool(lines)), ''.join(difference_text(*line) for line in lines), f'vsp: {summary(lines, shared)}\n'
 
 
 def write(folder, name, data):
     with open(os.path.join(folder, name), 'wb') as f:
         f.write(data)
+
+
+def write_comparison(folder, name, first, second, names):
+    """NAME.status, NAME.out and NAME.err."""
+    status, said, error = comparison(first, second, names)
+    write(folder, name + '.status', str(status).encode())
+    write(folder, name + '.out', said.encode())
+    write(folder, name + '.err', error.encode())
 
 
 if __name__ == '__main__':

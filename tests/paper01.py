@@ -1,4 +1,4 @@
-"""Paper 01, and Items 1 and 2 of paper 02, in plain Python, written from the papers and source document 002 alone.
+"""Paper 01, and Items 1, 2 and 4 of paper 02, in plain Python, written from the papers and source document 002 alone.
 
 It is the second opinion from which the expected outputs of the tests are made; it shares no table with the Rattle code."""
 
@@ -298,19 +298,39 @@ def opening(data):
     return None
 
 
-def check(data):
-    """None where accepted, else number, place, index, register."""
-    number = opening(data)
-    if number is not None:
-        return number, 0, 0, 64
+def numbers_in(data):
+    return [int.from_bytes(data[i:i + 8], 'little') for i in range(0, len(data), 8)]
+
+
+def parts(data):
+    """The entry set, the words and the notes of a parcel that opens, as numbers."""
     n = int.from_bytes(data[6:8], 'little')
-    entry = members(int.from_bytes(data[8:16], 'little'))
-    words = [int.from_bytes(data[16 + 8 * i:24 + 8 * i], 'little') for i in range(n)]
-    notes = [members(int.from_bytes(data[16 + 8 * n + 8 * i:24 + 8 * n + 8 * i], 'little')) for i in range(n)]
+    entry, *rest = numbers_in(data[8:])
+    return entry, rest[:n], rest[n:]
+
+
+def unreadable(words):
+    """Number, place, index and register of the lowest word that does not read, or None."""
     for i, w in enumerate(words):
         result = read(w.to_bytes(8, 'little'))
         if result[0] == 'refused':
             return result[1], result[2], i, 64
+    return None
+
+
+def misfit(data):
+    """None where a parcel opens and all its words read, else number, place, index, register."""
+    number = opening(data)
+    return unreadable(parts(data)[1]) if number is None else (number, 0, 0, 64)
+
+
+def check(data):
+    """None where accepted, else number, place, index, register."""
+    refused = misfit(data)
+    if refused is not None:
+        return refused
+    entry, words, notes = parts(data)
+    n, entry, notes = len(words), members(entry), [members(note) for note in notes]
     if notes[0] - entry:
         return 23, 0, 0, min(notes[0] - entry)
     for i, w in enumerate(words):
@@ -326,21 +346,22 @@ def check(data):
     return None
 
 
+def name_of(w):
+    """The name of a word that reads."""
+    return ROWS[read(w.to_bytes(8, 'little'))[1]]['name']
+
+
+def verdict_line(number, _, index, register):
+    return f'REFUSED {number:02d} {index:04d} {register:02d}'
+
+
 def listing(data):
     """The lister's output for a parcel's bytes."""
     lines = []
-    if opening(data) is None:
-        n = int.from_bytes(data[6:8], 'little')
-        words = [data[16 + 8 * i:24 + 8 * i] for i in range(n)]
-        read_words = [read(w) for w in words]
-        if all(r[0] == 'read' for r in read_words):
-            lines = [f'{i:04d} {int.from_bytes(w, "little"):016X} {ROWS[r[1]]["name"]}' for i, (w, r) in enumerate(zip(words, read_words))]
+    if misfit(data) is None:
+        lines = [f'{i:04d} {w:016X} {name_of(w)}' for i, w in enumerate(parts(data)[1])]
     verdict = check(data)
-    if verdict is None:
-        lines.append('ACCEPTED')
-    else:
-        number, _, index, register = verdict
-        lines.append(f'REFUSED {number:02d} {index:04d} {register:02d}')
+    lines.append('ACCEPTED' if verdict is None else verdict_line(*verdict))
     return ''.join(line + '\n' for line in lines)
 
 
@@ -382,14 +403,83 @@ def swept(words, entry):
 
 def infer(data, entry):
     """For the words' bytes and the entry set's registers: ('notes', sweeps, parcel) or ('refused', number, place, index, register)."""
-    words = [int.from_bytes(data[i:i + 8], 'little') for i in range(0, len(data), 8)]
+    words = numbers_in(data)
     if len(data) % 8 or not 1 <= len(words) <= 2048:
         return 'refused', 12, 0, 0, 64
-    for i, w in enumerate(words):
-        result = read(w.to_bytes(8, 'little'))
-        if result[0] == 'refused':
-            return 'refused', result[1], result[2], i, 64
+    refused = unreadable(words)
+    if refused is not None:
+        return 'refused', *refused
     sweeps, notes = swept(words, members_of(entry))
     made = parcel(words, [members(note) for note in notes], entry)
     # the notes contain every acceptable set, so where they are refused none is accepted
     return ('notes', sweeps, made) if check(made) is None else ('refused', 24, 0, 0, 64)
+
+
+# ---- comparing (paper 02, Item 4)
+
+# In the paper's order; a modifier is named by its lowest bit.
+FIELDS = ['row', 'page', 'flow', 'destination', *(f'source {j}' for j in range(4)), *(f'modifier {low:02d}' for low in range(64))]
+DIGITS = {'page': 1, 'flow': 1, 'destination': 2, 'source': 2, 'modifier': 1, 'modifier 08': 7, 'entry': 16, 'note': 16}
+
+
+def contents(w):
+    """Of a word that reads the content of each field that its row has: the row's number, or the bits."""
+    _, k = read(w.to_bytes(8, 'little'))
+    row = ROWS[k]
+    found = {'row': k, 'page': bits(w, 57, 2), 'flow': bits(w, 59, 4)}
+    if row['destination']:
+        found['destination'] = bits(w, 40, 8)
+    for j in range(row['sources']):
+        found[f'source {j}'] = bits(w, 8 * j, 8)
+    for low, width, _, _ in row['fields']:
+        found[f'modifier {low:02d}'] = bits(w, low, width)
+    if row['offset']:
+        found['modifier 08'] = bits(w, 8, 27)
+    return found
+
+
+def changes(w, w2):
+    """The fields in which two words that read differ, each with both contents, 0 where a row lacks it."""
+    first, second = contents(w), contents(w2)
+    pairs = [(field, first.get(field, 0), second.get(field, 0)) for field in FIELDS]
+    return [(field, left, right) for field, left, right in pairs if left != right]
+
+
+def differences(first, second):
+    """For the bytes of two parcels ('refused', which, number, place, index, register), or ('list', lines). A line is the index, None for the entry
+    sets; what differs; and both contents, None where a parcel has no such instruction."""
+    for which, data in (('first', first), ('second', second)):
+        refused = misfit(data)
+        if refused is not None:
+            return 'refused', which, *refused
+    (entry, words, notes), (entry2, words2, notes2) = parts(first), parts(second)
+    lines = [(i, *change) for i, pair in enumerate(zip(words, words2)) for change in changes(*pair)]
+    lines += [(i, 'added', None, w) for i, w in enumerate(words2) if i >= len(words)]
+    lines += [(i, 'removed', w, None) for i, w in enumerate(words) if i >= len(words2)]
+    lines += [(None, 'entry', entry, entry2)] if entry != entry2 else []
+    shared = min(len(words), len(words2))
+    lines += [(i, 'note', notes[i], notes2[i]) for i in range(shared) if notes[i] != notes2[i]]
+    return 'list', lines
+
+
+def difference_text(index, what, left, right):
+    """A line of the list as the program differ writes it."""
+    if what == 'row':
+        text = f'row {left:02d} {ROWS[left]["name"]} -> {right:02d} {ROWS[right]["name"]}'
+    elif what in ('added', 'removed'):
+        w = right if what == 'added' else left
+        text = f'{what} {w:016X} {name_of(w)}'
+    else:
+        digits = DIGITS.get(what) or DIGITS[what.split()[0]]
+        text = f'{what} {left:0{digits}X} -> {right:0{digits}X}'
+    return (text if index is None else f'{index:04d} {text}') + '\n'
+
+
+def differ(first, second):
+    """What the program differ writes for two parcels: standard output, standard error."""
+    kind, *rest = differences(first, second)
+    if kind == 'list':
+        return ''.join(difference_text(*line) for line in rest[0]), ''
+    which, number, place, index, register = rest
+    told = f'differ: place {place}\n' if number in (6, 7) else ''
+    return '', f'differ: {which}\n{verdict_line(number, place, index, register)}\n{told}'

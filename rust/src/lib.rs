@@ -18,6 +18,8 @@ pub mod raw;
 pub const WORD: usize = 8;
 /// The length of the C interface's form of an instruction.
 pub const FORM: usize = 32;
+/// No list of differences has more lines: 23 for each of 2048 instructions, and one.
+pub const DIFF_LINES: usize = 23 * 2048 + 1;
 
 /// The fields of an instruction. What its row has no place for is 0.
 #[derive(Clone, Copy, Debug, Default, PartialEq, Eq)]
@@ -75,6 +77,62 @@ pub enum Inference {
         /// 64: none of these refusals blames a register.
         register: u8,
     },
+}
+
+/// What a line of the list of differences tells of.
+#[derive(Clone, Copy, Debug, PartialEq, Eq)]
+pub enum What {
+    /// The contents are row numbers.
+    Row,
+    Page,
+    Flow,
+    /// Bits 40 to 47 of the word as one: register + 64 half mask.
+    Destination,
+    /// A source by its index, 0 to 3.
+    Source(u8),
+    /// A modifier by its lowest bit in the word. At bit 8 that is the branch offset, as its raw
+    /// 27 bits, or the NaN mode.
+    Modifier(u8),
+    /// An instruction that only the second parcel has; the contents are 0 and its word.
+    Added,
+    /// An instruction that only the first parcel has; the contents are its word and 0.
+    Removed,
+    /// The entry sets.
+    Entry,
+    /// The notes of an instruction that both have.
+    Note,
+}
+
+/// A line of the list of differences.
+#[derive(Clone, Copy, Debug, PartialEq, Eq)]
+pub struct Difference {
+    pub what: What,
+    /// The instruction, 0 for the entry sets.
+    pub index: u16,
+    /// What the first parcel has there: a row number, or the field's bits, 0 where its row has
+    /// no such field.
+    pub first: u64,
+    /// What the second parcel has there.
+    pub second: u64,
+}
+
+/// One of the two parcels that are compared.
+#[derive(Clone, Copy, Debug, PartialEq, Eq)]
+pub enum Side {
+    First,
+    Second,
+}
+
+/// The parcel that can't be compared, since it doesn't open or has a word that isn't legal.
+#[derive(Clone, Copy, Debug, PartialEq, Eq)]
+pub struct Unread {
+    pub side: Side,
+    pub number: u8,
+    pub place: u8,
+    /// The lowest word that isn't legal, 0 where the parcel doesn't open.
+    pub index: u16,
+    /// 64: none of these refusals blames a register.
+    pub register: u8,
 }
 
 /// Opens a parcel, reads all its words and checks its notes.
@@ -149,10 +207,72 @@ pub fn row_of(opcode: u64, k: u64) -> Option<u8> {
     }
 }
 
+/// Line k, counted from 0, of the list of what differs between two parcels, or none where the
+/// list has fewer; [`differences`] says what is on it. Each call goes through the list from its
+/// front.
+pub fn difference(first: &[u8], second: &[u8], k: usize) -> Result<Option<Difference>, Unread> {
+    let mut line = [0; 3];
+    match raw::diff_line(first, second, k, &mut line) {
+        0 => Ok(Some(Difference::from_numbers(line))),
+        raw::FEWER => Ok(None),
+        code => Err(unread(code)),
+    }
+}
+
+/// The list of what differs between two parcels, the approved one first.
+///
+/// For each instruction that both have, in order, a line for each field that differs: row, page,
+/// flow, destination, sources, modifiers by lowest bit. Then the instructions that only the
+/// longer parcel has, then the entry sets if they differ, then the notes that differ of the
+/// instructions that both have. The list is empty exactly where the two have the same bytes.
+///
+/// Both parcels must open and all their words be legal; the first is looked at before the
+/// second. Notes are compared and not checked: an empty list doesn't mean that [`check`] accepts
+/// the parcels. Takes some 1.1 MB of heap while it runs.
+pub fn differences(first: &[u8], second: &[u8]) -> Result<Vec<Difference>, Unread> {
+    let mut lines = vec![[0; 3]; DIFF_LINES];
+    let buffer = lines.first_chunk_mut().expect("the buffer has this length");
+    let code = raw::diff_lines(first, second, buffer);
+    match code as u8 {
+        0 => Ok(lines[..(code >> 16) as usize].iter().map(|line| Difference::from_numbers(*line)).collect()),
+        _ => Err(unread(code)),
+    }
+}
+
+fn unread(code: u64) -> Unread {
+    Unread {
+        side: if code >> 48 == 1 { Side::First } else { Side::Second },
+        number: code as u8,
+        place: (code >> 8) as u8,
+        index: (code >> 16) as u16,
+        register: (code >> 32) as u8,
+    }
+}
+
 fn answer(code: u32) -> Result<(), Refusal> {
     match code {
         0 => Ok(()),
         _ => Err(Refusal { number: code as u8, place: (code >> 8) as u8 }),
+    }
+}
+
+impl Difference {
+    /// The line that the C interface gives as three numbers.
+    fn from_numbers([head, first, second]: raw::Line) -> Difference {
+        let which = (head >> 8) as u8;
+        let what = match head as u8 {
+            0 => What::Row,
+            1 => What::Page,
+            2 => What::Flow,
+            3 => What::Destination,
+            4 => What::Source(which),
+            5 => What::Modifier(which),
+            6 => What::Added,
+            7 => What::Removed,
+            8 => What::Entry,
+            _ => What::Note,
+        };
+        Difference { what, index: (head >> 16) as u16, first, second }
     }
 }
 

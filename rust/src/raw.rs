@@ -1,9 +1,14 @@
 //! The C functions with slices for pointers and lengths, and their codes as they come.
 
-use crate::FORM;
+use crate::{DIFF_LINES, FORM};
 
 /// From [`row_of`]: the opcode has no such row.
 pub const NO_ROW: u32 = 255;
+/// From [`diff_line`]: the list has no such line.
+pub const FEWER: u64 = 255;
+
+/// A line of the list of differences: what + 2^8 which + 2^16 index, and both contents.
+pub type Line = [u64; 3];
 
 unsafe extern "C" {
     fn vsp_check(parcel: *const u8, length: usize) -> u64;
@@ -12,6 +17,21 @@ unsafe extern "C" {
     fn vsp_fresh(row: u64, form: *mut u8) -> u32;
     fn vsp_row_of(opcode: u64, k: u64) -> u32;
     fn vsp_infer(words: *const u8, length: usize, entry: u64, notes: *mut u8, notes_length: usize) -> u64;
+    fn vsp_diff_line(
+        first: *const u8,
+        first_length: usize,
+        second: *const u8,
+        second_length: usize,
+        k: usize,
+        line: *mut u64,
+    ) -> u64;
+    fn vsp_diff_lines(
+        first: *const u8,
+        first_length: usize,
+        second: *const u8,
+        second_length: usize,
+        lines: *mut u64,
+    ) -> u64;
 }
 
 /// 0, or number + 2^8 place + 2^16 index + 2^32 register.
@@ -49,4 +69,19 @@ pub fn row_of(opcode: u64, k: u64) -> u32 {
 pub fn infer(words: &[u8], entry: u64, notes: &mut [u8]) -> u64 {
     // SAFETY: the words are as long as said, to read; the notes are, to write to, and apart.
     unsafe { vsp_infer(words.as_ptr(), words.len(), entry, notes.as_mut_ptr(), notes.len()) }
+}
+
+/// 0, or [`FEWER`], or number + 2^8 place + 2^16 index + 2^32 register + 2^48 parcel, 1 for the
+/// first and 2 for the second; where it isn't 0 the line keeps its numbers.
+pub fn diff_line(first: &[u8], second: &[u8], k: usize, line: &mut Line) -> u64 {
+    // SAFETY: the parcels are as long as said, to read; the line is three numbers to write to.
+    unsafe { vsp_diff_line(first.as_ptr(), first.len(), second.as_ptr(), second.len(), k, line.as_mut_ptr()) }
+}
+
+/// 2^16 lines, which are at the front of the buffer, whose other lines stay; or the refusal as
+/// from [`diff_line`], and then all of the buffer keeps its numbers.
+pub fn diff_lines(first: &[u8], second: &[u8], lines: &mut [Line; DIFF_LINES]) -> u64 {
+    let lines = lines.as_flattened_mut().as_mut_ptr();
+    // SAFETY: as above; the lines have room for any list.
+    unsafe { vsp_diff_lines(first.as_ptr(), first.len(), second.as_ptr(), second.len(), lines) }
 }

@@ -4,3 +4,4 @@ pub mod ByteLaws
 pub mod SetLaws
 pub mod OutcomeLaws
 pub mod SignedLaws
+pub mod ListLaws

@@ -3,3 +3,4 @@ pub mod Bytes
 pub mod Sets
 pub mod Outcomes
 pub mod Signed
+pub mod Lists

@@ -3,7 +3,7 @@ use mathlib.Core.Path.{_≡_, refl, sym, ap, _∙_}
 use mathlib.Core.Bool.{Bool, true, false, not}
 use mathlib.Core.List.{List, [], _∷_, _++_}
 use mathlib.Core.Logic.{_↔_, inl, inr, ⊎-elim}
-use mathlib.Core.Option.{Option, none, some as found, Option·some-ne-none}
+use mathlib.Core.Option.{Option, none, some as found, Option·some-ne-none, Option·none-ne-some}
 use Prim.Native.Nat.{ℕ, zero, suc, _+_, _*_, _/_, _%_, _<_}
 use native.Mathlib.Omega.{arith}
 use lib.Dec.{eqb, ltb, lit≤}
@@ -39,10 +39,14 @@ use Rattle.verifier.proofs.Demand3.{demand3}
 use Rattle.verifier.proofs.ProgramLaws.{bytes-below}
 use Rattle.verifier.proofs.NumberedLaws.{FromTheRules, verdict-numbers}
 use Rattle.infer.specs.Inference.{infer-outcome}
+use Rattle.diff.specs.declared.line.Line.{Line}
+use Rattle.diff.specs.declared.answer.Unread.{Unread}
+use Rattle.diff.specs.Answers.{line-outcome, list-outcome}
+use Rattle.diff.proofs.RefusalLaws.{Early, line-early, list-early}
 use Rattle.infer.proofs.NumberedLaws.{FromTheMaker, infer-numbers}
-use Rattle.capi.specs.Codes.{verdict-code, infer-code, row-code}
+use Rattle.capi.specs.Codes.{verdict-code, infer-code, row-code, unread-code, line-code, list-code}
 use Rattle.capi.specs.Form.{half, form-of, pick, instruction-of-form, padded, write-form, word-after}
-use Rattle.capi.specs.Promises.{ZeroTells, ZeroMeansDone, NoRowMeansNone, ReadThenWritten, WrittenThenRead, FreshThenWritten}
+use Rattle.capi.specs.Promises.{ZeroTells, ZeroMeansDone, FewerMeansNone, NoRowMeansNone, ReadThenWritten, WrittenThenRead, FreshThenWritten}
 use Rattle.capi.proofs.OffsetLaws.{few}
 use Rattle.capi.proofs.FormLaws.{form-bytes, form-back}
 use Rattle.capi.proofs.AnswerLaws.{through, kept}
@@ -74,6 +78,31 @@ infer-zero : (o : Outcome Finding ℕ) → Refusals (λ (f : Finding). FromTheMa
 infer-zero (gives k) h = (λ e. (k, refl), λ g. omega arith)
 infer-zero (refuses f) h = (λ e. absurd (⊎-elim (λ b. omega (arith, b, e)) (⊎-elim (λ q. omega (arith, q, e)) (λ q. omega (arith, q, e))) (h f refl)), λ g. never (g .1))
 
+-- a comparison: a refusal has a number of opening or reading and no register, which is 64
+module _ (u : Unread) (h : Early (u .finding)) where
+  not-zero : unread-code u % 256 ≡ 0 → ⊥
+  not-zero e = ⊎-elim (λ n. omega (arith, n, e)) (λ n. omega (arith, n, e)) (h .number)
+
+  not-small : unread-code u < 256 → ⊥
+  not-small e = omega (arith, h .register, e)
+
+line-zero : (o : Outcome Unread (Option Line)) → ((u : Unread) → o ≡ refuses u → Early (u .finding)) → (line-code o ≡ 0) ↔ ((l : Line) × (o ≡ gives (found l)))
+line-zero (gives (found l)) h = (λ e. (l, refl), λ g. refl)
+line-zero (gives none) h = (λ e. absurd (omega (arith, e)), λ g. absurd (Option·none-ne-some (g .0) (cc (g .1))))
+line-zero (refuses u) h = (λ e. absurd (not-small u (h u refl) (omega (arith, e))), λ g. never (g .1))
+
+line-fewer : (o : Outcome Unread (Option Line)) → ((u : Unread) → o ≡ refuses u → Early (u .finding)) → (line-code o ≡ 255) ↔ (o ≡ gives none)
+line-fewer (gives (found l)) h = (λ e. absurd (omega (arith, e)), λ g. absurd (Option·some-ne-none l (cc g)))
+line-fewer (gives none) h = (λ e. refl, λ g. refl)
+line-fewer (refuses u) h = (λ e. absurd (not-small u (h u refl) (omega (arith, e))), λ g. never g)
+
+list-zero : (o : Outcome Unread ℕ) → ((u : Unread) → o ≡ refuses u → Early (u .finding)) → (list-code o % 256 ≡ 0) ↔ ((n : ℕ) × (o ≡ gives n))
+list-zero (gives n) h = (λ e. (n, refl), λ g. omega arith)
+list-zero (refuses u) h = (λ e. absurd (not-zero u (h u refl) e), λ g. never (g .1))
+
+pub fewer-means-none : FewerMeansNone
+fewer-means-none a b k = line-fewer (line-outcome a b k) (λ u e. line-early a b k e)
+
 pub zero-means-done : ZeroMeansDone
 zero-means-done =
     record {
@@ -82,6 +111,8 @@ zero-means-done =
       of-fresh = λ row. zero-tells (fresh row) (weaker (λ (f : Refusal) (n : f .number ≡ 2). omega (arith, n)) (fresh-numbers row));
       of-check = λ s. verdict-zero (verdict-of s) (weaker (λ (f : Finding) (n : FromTheRules (f .number)). no-rule-0 n) (verdict-numbers s));
       of-infer = λ words entry buffer. infer-zero (infer-outcome words entry buffer) (infer-numbers words entry buffer);
+      of-diff-line = λ a b k. line-zero (line-outcome a b k) (λ u e. line-early a b k e);
+      of-diff-lines = λ a b. list-zero (list-outcome a b) (λ u e. list-early a b e);
     }
 
 -- a row's number is below 255

@@ -3,7 +3,7 @@
 use mathlib.Core.Path.{_≡_}
 use mathlib.Core.List.{List}
 use mathlib.Core.Logic.{_↔_}
-use mathlib.Core.Option.{none}
+use mathlib.Core.Option.{none, some}
 use Prim.Native.Nat.{ℕ, _%_, _^_, _<_}
 use lib.ListN.{length, getD}
 use Rattle.bits.specs.Outcomes.{Outcome, gives, passes}
@@ -15,7 +15,9 @@ use Rattle.reader.specs.Reader.{read}
 use Rattle.record.specs.Defaults.{fresh}
 use Rattle.verifier.specs.Verdict.{verdict-of}
 use Rattle.infer.specs.Inference.{infer-outcome}
-use Rattle.capi.specs.Codes.{outcome-code, verdict-code, infer-code, row-code}
+use Rattle.diff.specs.declared.line.Line.{Line}
+use Rattle.diff.specs.Answers.{line-outcome, list-outcome}
+use Rattle.capi.specs.Codes.{outcome-code, verdict-code, infer-code, row-code, line-code, list-code}
 use Rattle.capi.specs.Form.{form-of, write-form, word-after}
 
 -- "Gives 0 .., or number + 2^8 place": the code is 0 exactly where something is given, so that no refusal looks like success
@@ -32,9 +34,17 @@ pub record ZeroMeansDone : Type 0 where
   pub of-fresh : (row : ℕ) → ZeroTells (fresh row)
   -- vsp_check: "Gives 0 where the parcel is accepted"
   pub of-check : (s : List ℕ) → (verdict-code (verdict-of s) ≡ 0) ↔ (verdict-of s ≡ passes)
-  -- vsp_infer: "so that the number is 0, where it proposes notes". The number is the code's lowest byte.
+  -- vsp_infer, where it proposes notes: "so that the number is 0". The number is the code's lowest byte.
   pub of-infer : (words : List ℕ) (entry : ℕ) (buffer : List ℕ)
       → (infer-code (infer-outcome words entry buffer) % 2 ^ 8 ≡ 0) ↔ ((k : ℕ) × (infer-outcome words entry buffer ≡ gives k))
+  -- vsp_diff_line: "Gives 0 and the line's three numbers"
+  pub of-diff-line : (a b : List ℕ) (k : ℕ) → (line-code (line-outcome a b k) ≡ 0) ↔ ((l : Line) × (line-outcome a b k ≡ gives (some l)))
+  -- vsp_diff_lines: "so that the number is 0". The number is the code's lowest byte.
+  pub of-diff-lines : (a b : List ℕ) → (list-code (list-outcome a b) % 2 ^ 8 ≡ 0) ↔ ((n : ℕ) × (list-outcome a b ≡ gives n))
+
+-- vsp_diff_line: "VSP_FEWER where the list has no line k": 255 is the number of no refusal
+abbrev pub FewerMeansNone : Type 0
+FewerMeansNone = (a b : List ℕ) (k : ℕ) → (line-code (line-outcome a b k) ≡ 255) ↔ (line-outcome a b k ≡ gives none)
 
 -- vsp_row_of: "or VSP_NO_ROW where there is none": 255 is the number of no row
 abbrev pub NoRowMeansNone : Type 0

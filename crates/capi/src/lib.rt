@@ -8,7 +8,8 @@ ghost use Rattle.verifier.specs.Verdict.{verdict-of};
 ghost use Rattle.verifier.specs.Demand3.{Demand3At};
 ghost use Rattle.infer.specs.Inference.{infer-outcome, infer-buffer};
 ghost use Rattle.infer.specs.Asked.{AsAsked};
-ghost use Rattle.capi.specs.Codes.{code, packed, outcome-code, verdict-code, infer-code, row-code};
+ghost use Rattle.diff.specs.Answers.{line-outcome, list-outcome, list-buffer};
+ghost use Rattle.capi.specs.Codes.{code, packed, outcome-code, verdict-code, infer-code, row-code, unread-code, line-code, line-after, list-code};
 ghost use Rattle.capi.specs.Form.{form-after, write-form, word-after};
 use crate::form::form_of;
 use crate::form::instruction_of_form;
@@ -16,6 +17,14 @@ use crate::form::padded;
 use bits::bytes::wide;
 use codec::read_word;
 use codec::write_word;
+use diff::answer::Compared;
+use diff::answer::Listed;
+use diff::answer::Side;
+use diff::answer::Unread;
+use diff::diff_line;
+use diff::diff_lines;
+use diff::numbers::MOST_NUMBERS;
+use diff::numbers::line_numbers;
 use infer::answer::Inference;
 use infer::infer;
 use lookup::opcodes::RowFound;
@@ -47,6 +56,19 @@ fn finding_code(f: Finding) -> u64
     low + 65536 * f.index as u64 + 4294967296 * f.register as u64
 }
 
+// A container that cannot be compared as one number: the finding, and 2^48 for the first or 2^49 for the second.
+fn unread_code(u: Unread) -> u64
+    requires { ⌜ (u .finding .index < 65536) × (u .finding .register < 65536) ⌝ }
+    ensures { λ r. ⌜ r ≡ unread-code u ⌝ }
+{
+    let f = u.finding;
+    let side = u.side;
+    match side {
+        Side::First => finding_code(f) + 281474976710656,
+        Side::Second => finding_code(f) + 562949953421312,
+    }
+}
+
 // Verifies a container: 0 where it is accepted, else the finding as one number.
 #[no_mangle]
 pub extern "C" fn vsp_check(container: &[u8]) -> u64
@@ -72,6 +94,47 @@ pub extern "C" fn vsp_infer(words: &[u8], entry: u64, annotations: &mut [u8]) ->
     match a {
         Inference::Proposed(k) => 65536 * k as u64,
         Inference::Refused(f) => finding_code(f),
+    }
+}
+
+// Line k of the list of differences between two containers: 0 and the line's three numbers; 255 where the list has fewer, or which
+// container cannot be compared as one number, and then the numbers stay.
+#[no_mangle]
+pub extern "C" fn vsp_diff_line<'a>(
+    first: &'a [u8],
+    second: &'a [u8],
+    k: usize,
+    line: &mut [u64; 3],
+) -> u64
+    ensures answer { λ r. ⌜ r ≡ line-code (line-outcome (now (first .entry)) (now (second .entry)) k) ⌝ }
+    ensures kept { λ r. ⌜ now (line .exit) ≡ line-after (line-outcome (now (first .entry)) (now (second .entry)) k) (now (line .entry)) ⌝ }
+{
+    let c = diff_line(first, second, k);
+    match c {
+        Compared::Line(l) => {
+            *line = line_numbers(l);
+            0
+        }
+        Compared::Fewer => 255,
+        Compared::Unread(u) => unread_code(u),
+    }
+}
+
+// The whole list, three numbers a line at the front of a buffer for any list: 2^16 times the number of lines, or which container cannot be
+// compared as one number, and then the buffer keeps its numbers.
+#[no_mangle]
+pub extern "C" fn vsp_diff_lines<'a>(
+    first: &'a [u8],
+    second: &'a [u8],
+    lines: &mut [u64; MOST_NUMBERS],
+) -> u64
+    ensures answer { λ r. ⌜ r ≡ list-code (list-outcome (now (first .entry)) (now (second .entry))) ⌝ }
+    ensures kept { λ r. ⌜ now (lines .exit) ≡ list-buffer (now (first .entry)) (now (second .entry)) (now (lines .entry)) ⌝ }
+{
+    let l = diff_lines(first, second, lines);
+    match l {
+        Listed::Lines(n) => 65536 * n as u64,
+        Listed::Unread(u) => unread_code(u),
     }
 }
 

@@ -5,7 +5,7 @@ use Prim.Native.Nat.{ℕ, suc, _^_, _<_, _≤_}
 use mathlib.Core.Path.{_≡_}
 use mathlib.Core.Logic.{_≢_, _⊎_, _↔_}
 use lib.Dec.{T}
-use lib.ListN.{length}
+use lib.ListN.{length, take}
 use lib.Pow.{areBytes}
 use Rattle.bits.specs.Outcomes.{Outcome, gives, refuses, passes}
 use Rattle.bits.specs.Sets.{Has}
@@ -52,8 +52,8 @@ use Rattle.container.specs.Opening.{Rejection, unplaced, open-outcome, Opens}
 use Rattle.container.specs.Words.{word-outcome, open-count}
 use Rattle.container.proofs.NumberedLaws as container-numbers
 use Rattle.verifier.specs.declared.verdict.Finding.{Finding}
-use Rattle.verifier.specs.Verdict.{Judgement, verdict-of}
-use Rattle.verifier.specs.Program.{Program, machine}
+use Rattle.verifier.specs.Verdict.{Judgement, verdict-of, all-read}
+use Rattle.verifier.specs.Program.{Program, machine, WellFormed}
 use Rattle.verifier.specs.Reasons.{Reason}
 use Rattle.verifier.specs.Demand3.{Demand3}
 use Rattle.verifier.specs.Lazy.{WavesThrough}
@@ -61,6 +61,8 @@ use Rattle.walks.specs.Walks.{Machine, HoldsIfSupplied}
 use Rattle.walks.specs.Sweeps.{Note, Reports}
 use Rattle.walks.proofs.WalkLaws as walk-laws
 use Rattle.verifier.proofs.verify as check-call
+use Rattle.verifier.proofs.read_all as read-all-call
+use Rattle.verifier.proofs.ReadLaws as read-laws
 use Rattle.verifier.proofs.NumberedLaws as verifier-numbers
 use Rattle.verifier.proofs.Demand3 as demand-3-met
 use Rattle.verifier.proofs.ReasonLaws as reasons
@@ -74,20 +76,41 @@ use Rattle.infer.proofs.AskedLaws as inferred
 use Rattle.infer.proofs.SweepLaws as sweep-laws
 use Rattle.infer.proofs.LazyMakers as lazy-makers
 use Rattle.infer.proofs.NumberedLaws as infer-numbers
+use Rattle.diff.specs.declared.answer.Unread.{Unread}
+use Rattle.diff.specs.Records.{contents, HoldsBits}
+use Rattle.diff.specs.Differences.{instruction-of, shared}
+use Rattle.diff.specs.Answers.{side-of, both-read, line-outcome}
+use Rattle.diff.specs.Numbers.{TellLines}
+use Rattle.diff.specs.Asked.{Comparison, Compares}
+use Rattle.diff.specs.Lazy.{NeverLists, ListsEveryField}
+use Rattle.diff.proofs.«diff_line» as diff-line-call
+use Rattle.diff.proofs.«diff_lines» as diff-lines-call
+use Rattle.diff.proofs.«both_read» as both-read-call
+use Rattle.diff.proofs.AskedLaws as compared
+use Rattle.diff.proofs.BitLaws as bit-laws
+use Rattle.diff.proofs.NumberLaws as number-laws
+use Rattle.diff.proofs.LazyComparisons as lazy-comparisons
+use Rattle.diff.proofs.RefusalLaws as diff-refusals
 use Rattle.listing.specs.Listing.{listing}
 use Rattle.listing.specs.Asked.{ListedAsAsked}
-use Rattle.listing.specs.Cut.{FromTheFront}
+use Rattle.listing.specs.Cut.{read-length, FromTheFront}
 use Rattle.listing.proofs.«write» as list-call
+use Rattle.difftext.specs.Asked.{ShownWhole}
+use Rattle.difftext.proofs.write_line as write-line-call
+use Rattle.difftext.proofs.ShownLaws as shown-laws
 use Rattle.listing.proofs.AskedLaws as asked
 use Rattle.listing.proofs.CutLaws as cut
-use Rattle.capi.specs.Promises.{ZeroMeansDone, NoRowMeansNone, ReadThenWritten, WrittenThenRead, FreshThenWritten}
+use Rattle.capi.specs.Promises.{ZeroMeansDone, FewerMeansNone, NoRowMeansNone, ReadThenWritten, WrittenThenRead, FreshThenWritten}
 use Rattle.capi.proofs.vsp_read as vsp-read-call
 use Rattle.capi.proofs.vsp_write as vsp-write-call
 use Rattle.capi.proofs.vsp_fresh as vsp-fresh-call
 use Rattle.capi.proofs.vsp_row_of as vsp-row-of-call
 use Rattle.capi.proofs.vsp_check as vsp-check-call
 use Rattle.capi.proofs.vsp_infer as vsp-infer-call
+use Rattle.capi.proofs.vsp_diff_line as vsp-diff-line-call
+use Rattle.capi.proofs.vsp_diff_lines as vsp-diff-lines-call
 use Rattle.capi.proofs.PromiseLaws as promises
+use Rattle.claims.proofs.FrontLaws as front-laws
 
 -- ---- Demand 1: every call ends, with the answer that its contract names, and a refusal writes nothing. A contract's `ensures` equates the
 -- answer and each lent buffer afterwards with a definition, for all that can be handed in; none of these calls has a `requires`.
@@ -149,6 +172,23 @@ module _ {M : Type 1} where
   pub checks : check-call.Statement.statement M
   checks = check-call.Met.met
 
+  -- `verifier::read_all`: the answer is `all-read` of the bytes: opening and reading, and no more
+  pub reads-all : read-all-call.Statement.statement M
+  reads-all = read-all-call.Met.met
+
+  -- `diff::both_read`: the answer is `both-read` of two containers
+  pub reads-both : both-read-call.Statement.statement M
+  reads-both = both-read-call.Met.met
+
+  -- `diff::diff_line`: the answer is `line-outcome` of two containers and k: line k of the list of what differs, or that it has fewer, or
+  -- which container cannot be compared
+  pub compares : diff-line-call.Statement.statement M
+  compares = diff-line-call.Met.met
+
+  -- `diff::diff_lines`: the answer is `list-outcome`, and the buffer then begins with the whole list
+  pub compares-whole : diff-lines-call.Statement.statement M
+  compares-whole = diff-lines-call.Met.met
+
   -- `infer::infer`: answer and buffer are those of the sweeps, and what is asked of a maker of annotations holds of them
   pub infers : infer-call.Statement.statement M
   infers = infer-call.Met.met
@@ -156,6 +196,10 @@ module _ {M : Type 1} where
   -- `listing::write`: the buffer then begins with `listing` of the bytes
   pub lists : list-call.Statement.statement M
   lists = list-call.Met.met
+
+  -- `difftext::write_line`: the buffer then begins with `line-text` of the line
+  pub writes-line : write-line-call.Statement.statement M
+  writes-line = write-line-call.Met.met
 
   -- the functions for C: the answers are the codes of the same answers
   pub c-reads : vsp-read-call.Statement.statement M
@@ -176,8 +220,15 @@ module _ {M : Type 1} where
   pub c-infers : vsp-infer-call.Statement.statement M
   c-infers = vsp-infer-call.Met.met
 
+  pub c-compares : vsp-diff-line-call.Statement.statement M
+  c-compares = vsp-diff-line-call.Met.met
+
+  pub c-compares-whole : vsp-diff-lines-call.Statement.statement M
+  c-compares-whole = vsp-diff-lines-call.Met.met
+
 -- the numbers of the refusals are those of the rules: 1 to 7 of reading, 2 and 4 to 9 of writing, 2 of making, 10 to 13 of opening, 12 of
--- packing, 14 of asking for a word, of the check 2 to 7, 10 to 13 and 20 to 23, and of the maker 2 to 7, 12 and 24
+-- packing, 14 of asking for a word, of the check 2 to 7, 10 to 13 and 20 to 23, of the maker 2 to 7, 12 and 24, and of a
+-- comparison 2 to 7 and 10 to 13
 pub read-refusals : (bs : List ℕ) (f : Refusal) → read bs ≡ refuses f → (1 ≤ f .number) × (f .number ≤ 7)
 read-refusals = reader-numbers.read-numbers
 
@@ -329,6 +380,51 @@ module _ {M : Type 1} where
   pub leads-to-own-rows : line-call.Statement.statement M
   leads-to-own-rows = line-call.Met.met
 
+-- ---- Item 4 of paper 02: what differs between two parcels. Where both open and read, each line tells what differs, whatever differs has its
+-- line, the lines stand in order and are numbered from 0, and nothing is listed exactly when the bytes are equal; else which one does not
+-- open or read, the first before the second.
+pub compares-as-asked : Compares line-outcome
+compares-as-asked = compared.compares
+
+-- what a field of a record holds is what stands there in its word, or 0 where the row lacks the field; and a record that differs differs in
+-- a field
+pub fields-hold-bits : (bs : List ℕ) (x : Instruction) → read bs ≡ gives x → HoldsBits (little bs) x
+fields-hold-bits = bit-laws.holds-bits
+
+pub record-by-fields : (a b : List ℕ) → WellFormed a → WellFormed b → (i : ℕ) → i < shared a b
+    → contents (instruction-of a i) ≡ contents (instruction-of b i) → instruction-of a i ≡ instruction-of b i
+record-by-fields = bit-laws.record-by-fields
+
+-- it is not met by a comparison that never lists anything, nor by one that lists every field
+pub not-by-never-listing : (c : Comparison) → NeverLists c → ¬ Compares c
+not-by-never-listing c l a = lazy-comparisons.not-silent c a l
+
+pub not-by-listing-every-field : (c : Comparison) → ListsEveryField c → ¬ Compares c
+not-by-listing-every-field c l a = lazy-comparisons.not-everything c a l
+
+-- what opens and reads is what is well-formed; what does not, is refused as the check refuses it: the same number, place, index and register
+pub read-when : (s : List ℕ) → (all-read s ≡ passes) ↔ WellFormed s
+read-when s = (read-laws.formed s, read-laws.all-of s)
+
+pub refused-as-checked : (a b : List ℕ) (u : Unread) → both-read a b ≡ refuses u → verdict-of (side-of a b (u .side)) ≡ refuses (u .finding)
+refused-as-checked = diff-refusals.as-checked
+
+pub compare-refusals : (a b : List ℕ) (u : Unread) → both-read a b ≡ refuses u
+    → (((2 ≤ u .finding .number) × (u .finding .number ≤ 7)) ⊎ ((10 ≤ u .finding .number) × (u .finding .number ≤ 13))) × (u .finding .register ≡ 64)
+compare-refusals a b u e = let h = diff-refusals.both-early a b e in (h .number, h .register)
+
+-- what the front hands over of a long input is enough: one byte more than the longest container has
+pub compared-by-fronts : (a b : List ℕ) (k : ℕ) → line-outcome (take read-length a) (take read-length b) k ≡ line-outcome a b k
+compared-by-fronts = front-laws.compared-by-fronts
+
+-- the three numbers of a line tell it
+pub numbers-tell-lines : TellLines
+numbers-tell-lines = number-laws.tell-lines
+
+-- the text of a line has all digits of its index and of both contents
+pub lines-shown-whole : (a b : List ℕ) → ShownWhole a b
+lines-shown-whole = shown-laws.shown-whole
+
 -- ---- The listing: of a well-formed parcel a line for each word and then the verdict, else the verdict only; no digit is lost
 pub listed : (s : List ℕ) → T (areBytes s) → ListedAsAsked s (listing s)
 listed = asked.listed-as-asked
@@ -340,9 +436,12 @@ listing-from-the-front = cut.listing-from-the-front
 pub verdict-from-the-front : FromTheFront verdict-of
 verdict-from-the-front = cut.verdict-from-the-front
 
--- ---- The C header: 0 means done, 255 no row, and forms and words undo one another
+-- ---- The C header: 0 means done, 255 no row or no line, and forms and words undo one another
 pub zero-means-done : ZeroMeansDone
 zero-means-done = promises.zero-means-done
+
+pub fewer-means-none : FewerMeansNone
+fewer-means-none = promises.fewer-means-none
 
 pub no-row-means-none : NoRowMeansNone
 no-row-means-none = promises.no-row-means-none

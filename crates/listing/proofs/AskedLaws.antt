@@ -19,24 +19,16 @@ use Rattle.container.proofs.OpeningLaws.{sized}
 use Rattle.container.proofs.NumberedLaws.{Unopened, open-numbers}
 use Rattle.verifier.specs.declared.verdict.Finding.{Finding}
 use Rattle.verifier.specs.Program.{Program, program-of, WellFormed}
-use Rattle.verifier.specs.Verdict.{Judgement, first, judge-opening, judge-reading, judge-word, judge-program, verdict-of}
+use Rattle.verifier.specs.Verdict.{Judgement, first, judge-opening, judge-reading, judge-word, judge-program, verdict-of, all-read}
 use Rattle.verifier.specs.Reasons.{Wrong, entry-lacks, annotation-lacks, runs-off, successor-lacks, Reason, unopened, unreadable, wrong}
-use Rattle.verifier.proofs.VerdictLaws.{neither, first-to, first-refused}
+use Rattle.verifier.proofs.VerdictLaws.{first-refused}
 use Rattle.verifier.proofs.ReasonLaws.{reason}
-use Rattle.verifier.proofs.Demand3.{opening-of, word-of}
-use Rattle.listing.specs.Listing.{all-read, listing}
+use Rattle.verifier.proofs.ReadLaws.{formed, all-of, goes-on}
+use Rattle.verifier.proofs.Demand3.{opening-of}
+use Rattle.listing.specs.Listing.{listing}
 use Rattle.listing.specs.Asked.{Shown, ListedAsAsked}
 use Rattle.listing.proofs.NumberLaws.{opens, reads}
-use Rattle.listing.proofs.ListingLaws.{goes-on, listing-read, listing-unread}
-
--- what passes is well-formed, and what is well-formed passes
-module _ (s : List ℕ) where
-  formed : all-read s ≡ passes → WellFormed s
-  formed e = record { opens = opening-of s (opens s e); reads = λ i l. word-of (words-of s) i (reads s e i l) }
-
-  all-of : WellFormed s → all-read s ≡ passes
-  unfolding all-read
-  all-of f = neither (ap judge-opening (f .opens)) (first-to (judge-word (words-of s)) (count-of s) (λ i l. ap (judge-reading i) (f .reads i l .1)))
+use Rattle.listing.proofs.ListingLaws.{listing-read, listing-unread}
 
 -- the digits of a refusal, by its reason
 wrong-shown : (p : Program) → p .count ≤ most-instructions → {f : Finding} → Wrong p f → Shown f

@@ -14,10 +14,10 @@ use Rattle.bits.proofs.OutcomeLaws.{then-refused}
 use Rattle.container.specs.declared.header.Header.{Header}
 use Rattle.container.specs.Container.{header-length, most-instructions, version, marked, version-of, zero-of, count-of, words-of, container-length}
 use Rattle.container.specs.Opening.{Rejection, unplaced, header-of, open-outcome}
-use Rattle.container.proofs.OpeningLaws.{version-two, count-two}
-use Rattle.verifier.specs.Program.{program-of}
-use Rattle.verifier.specs.Verdict.{Judgement, finding, no-register, first, judge-opening, judge-word, judge-program, verdict-of}
-use Rattle.listing.specs.Listing.{lines, verdict-line, all-read, where-read, listing}
+use Rattle.container.proofs.OpeningLaws.{sized, version-two}
+use Rattle.verifier.specs.Program.{program-of, WellFormed}
+use Rattle.verifier.specs.Verdict.{Judgement, finding, no-register, first, judge-opening, judge-word, judge-program, verdict-of, all-read}
+use Rattle.listing.specs.Listing.{lines, verdict-line, where-read, listing}
 use Rattle.listing.specs.Cut.{longest-container, read-length, FromTheFront}
 use Rattle.listing.proofs.ListingLaws.{listing-unread}
 
@@ -57,10 +57,12 @@ module _ (s : List ℕ) {n : ℕ} (o : open-outcome s ≡ refuses (unplaced n)) 
   unfolding verdict-of
   unopened-verdict = then-refused (first (judge-word (words-of s)) (count-of s) then judge-program (program-of s)) (ap judge-opening o)
 
-  unopened-listing : listing s ≡ verdict-line (refuses (finding n 0 0 no-register))
+  unopened-read : all-read s ≡ refuses (finding n 0 0 no-register)
   unfolding all-read
-  unopened-listing =
-      listing-unread s (then-refused (first (judge-word (words-of s)) (count-of s)) (ap judge-opening o)) ∙ ap verdict-line unopened-verdict
+  unopened-read = then-refused (first (judge-word (words-of s)) (count-of s)) (ap judge-opening o)
+
+  unopened-listing : listing s ≡ verdict-line (refuses (finding n 0 0 no-register))
+  unopened-listing = listing-unread s unopened-read ∙ ap verdict-line unopened-verdict
 
 -- inputs that are too long and have the same first bytes
 module _ (s t : List ℕ) (same : (i : ℕ) → i < 8 → getD t i 0 ≡ getD s i 0) where
@@ -88,6 +90,9 @@ module _ (s : List ℕ) (big : read-length ≤ length s) where
   long-verdict : verdict-of Front ≡ verdict-of s
   long-verdict = unopened-verdict Front (same-front ∙ refused .1) ∙ sym (unopened-verdict s (refused .1))
 
+  long-read : all-read Front ≡ all-read s
+  long-read = unopened-read Front (same-front ∙ refused .1) ∙ sym (unopened-read s (refused .1))
+
   long-listing : listing Front ≡ listing s
   long-listing = unopened-listing Front (same-front ∙ refused .1) ∙ sym (unopened-listing s (refused .1))
 
@@ -103,3 +108,10 @@ listing-from-the-front = either-way listing long-listing
 
 pub verdict-from-the-front : FromTheFront verdict-of
 verdict-from-the-front = either-way verdict-of long-verdict
+
+pub read-from-the-front : FromTheFront all-read
+read-from-the-front = either-way all-read long-read
+
+-- what opens and reads is all read
+pub all-of-it : (s : List ℕ) → WellFormed s → take read-length s ≡ s
+all-of-it s f = take-all read-length s (let z = sized s (f .opens) in omega (arith, z .long, z .few))

@@ -1,4 +1,3 @@
-pub mod TextLaws
 pub mod LineLaws
 pub mod NumberLaws
 pub mod ListingLaws

@@ -13,26 +13,22 @@ use Rattle.bits.specs.Outcomes.{Outcome, gives, refuses, passes, _then_}
 use Rattle.bits.proofs.OutcomeLaws.{never, then-passed, then-refused}
 use Rattle.container.specs.declared.header.Header.{Header}
 use Rattle.container.specs.Container.{header-length, count-of, words-of, annotations-start}
-use Rattle.container.specs.Opening.{header-of, open-outcome, Opens}
+use Rattle.container.specs.Opening.{header-of, Opens}
 use Rattle.container.specs.Words.{count-in, open-count}
 use Rattle.container.proofs.OpeningLaws.{sized, opened, words-to}
 use Rattle.verifier.specs.declared.verdict.Finding.{Finding}
 use Rattle.verifier.specs.Program.{program-of, Worded}
-use Rattle.verifier.specs.Verdict.{Judgement, first, judge-opening, judge-word, judge-program, verdict-of}
-use Rattle.verifier.proofs.VerdictLaws.{both, then-assoc}
+use Rattle.verifier.specs.Verdict.{Judgement, judge-program, verdict-of, all-read}
+use Rattle.verifier.proofs.VerdictLaws.{both}
 use Rattle.verifier.proofs.PassLaws.{worded}
-use Rattle.listing.specs.Text.{Put}
-use Rattle.listing.specs.Listing.{lines, verdict-line, all-read, lists, listing}
-use Rattle.listing.proofs.TextLaws.{put-next, same-text}
+use Rattle.text.specs.Text.{Put}
+use Rattle.listing.specs.Listing.{lines, verdict-line, lists, listing}
+use Rattle.text.proofs.TextLaws.{put-next, same-text}
 use Rattle.verifier.proofs.Demand3.{opening-of}
+use Rattle.verifier.proofs.ReadLaws.{goes-on}
 use Rattle.listing.proofs.NumberLaws.{early, late, opens}
 
 module _ (s : List ℕ) where
-  -- the verdict goes on where all words are read
-  pub goes-on : verdict-of s ≡ (all-read s then judge-program (program-of s))
-  unfolding verdict-of all-read
-  goes-on = sym (then-assoc (judge-opening (open-outcome s)) (first (judge-word (words-of s)) (count-of s)) (judge-program (program-of s)))
-
   -- a verdict that comes after reading, and one that does not
   module _ (t : T (areBytes s)) where
     pub read-by : lists (verdict-of s) ≡ true → all-read s ≡ passes
@@ -42,7 +38,7 @@ module _ (s : List ℕ) where
         go : (a : Judgement) → all-read s ≡ a → all-read s ≡ passes
         go (gives tt) q = q
         go (refuses f) q =
-            let v : verdict-of s ≡ refuses f = goes-on ∙ then-refused (judge-program (program-of s)) q in
+            let v : verdict-of s ≡ refuses f = goes-on s ∙ then-refused (judge-program (program-of s)) q in
             absurd (omega (arith, early s f q, leb-true 20 (f .number) (sym (ap lists v) ∙ e)))
 
     pub unread-by : lists (verdict-of s) ≡ false → (f : Finding) × (all-read s ≡ refuses f)

@@ -11,10 +11,9 @@ use Rattle.container.specs.Container.{count-of, words-of}
 use Rattle.container.specs.Opening.{open-outcome}
 use Rattle.verifier.specs.declared.verdict.Finding.{Finding}
 use Rattle.verifier.specs.Program.{program-of}
-use Rattle.verifier.specs.Verdict.{first, judge-opening, judge-word, judge-program, verdict-of}
+use Rattle.verifier.specs.Verdict.{first, judge-opening, judge-word, judge-program, verdict-of, all-read}
 use Rattle.verifier.proofs.VerdictLaws.{both, first-of}
 use Rattle.verifier.proofs.NumberedLaws.{ToldBetween, opened-numbers, words-numbers, program-numbers}
-use Rattle.listing.specs.Listing.{all-read}
 
 abbrev Early : Finding → Type 0
 Early f = f .number < 20

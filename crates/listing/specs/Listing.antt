@@ -4,20 +4,13 @@ use mathlib.Core.List.{List, [], _∷_, _++_}
 use Prim.Native.Nat.{ℕ, zero, suc, _+_, _*_}
 use lib.Dec.{leb}
 use Rattle.bits.specs.Bytes.{little}
-use Rattle.bits.specs.Outcomes.{Outcome, gives, refuses, _then_}
-use Rattle.record.specs.declared.instruction.Instruction.{Instruction}
-use Rattle.record.specs.declared.answer.Refusal.{Refusal}
-use Rattle.rows.specs.Names.{ascii, name-of, name-width}
+use Rattle.bits.specs.Outcomes.{gives, refuses}
+use Rattle.rows.specs.Names.{ascii, name-width}
 use Rattle.reader.specs.Reader.{read-number}
 use Rattle.container.specs.Container.{most-instructions, count-of, words-of, eight}
-use Rattle.container.specs.Opening.{open-outcome}
-use Rattle.verifier.specs.Verdict.{Judgement, first, judge-opening, judge-word, verdict-of}
-use Rattle.listing.specs.Text.{space, line-feed, decimal, hex}
-
--- the name of what a word says; none for a word that does not read, which no line is written for
-abbrev pub name-in : Outcome Refusal Instruction → List ℕ
-name-in (gives x) = name-of (x .row)
-name-in (refuses _) = []
+use Rattle.verifier.specs.Verdict.{Judgement, verdict-of, all-read}
+use Rattle.text.specs.Text.{space, line-feed, decimal, hex}
+use Rattle.text.specs.Name.{name-in}
 
 -- the line of the word w at index i: the index in four decimal digits, the word in 16 hexadecimal digits and the name, with a space between,
 -- and a line feed at the end
@@ -43,11 +36,7 @@ verdict-line (refuses f) =
     ++ (space ∷ decimal 2 (f .register))
     ++ (line-feed ∷ [])
 
--- whether it is a container whose words all read: passes, or the first refusal of opening and reading
-unfoldable pub all-read : List ℕ → Judgement
-all-read s = judge-opening (open-outcome s) then first (judge-word (words-of s)) (count-of s)
-
--- the same from a verdict: the refusals after reading are numbered from 20 on
+-- whether it is a container whose words all read, from a verdict: the refusals after reading are numbered from 20 on
 unfoldable pub lists : Judgement → Bool
 lists (gives _) = true
 lists (refuses f) = leb 20 (f .number)

@@ -6,12 +6,11 @@ use verifier::verdict::Verdict;
 ghost use Prim.Native.Nat.{_≤_};
 ghost use lib.ListN.{length};
 ghost use Rattle.verifier.specs.Verdict.{verdict-outcome};
-ghost use Rattle.listing.specs.Text.{Put};
+ghost use Rattle.text.specs.Text.{Put};
 ghost use Rattle.listing.specs.Listing.{verdict-line, listing, longest-listing};
 
 mod line;
 pub mod place;
-mod text;
 mod verdict;
 
 // The most bytes that the line of a verdict has.

@@ -1,7 +1,7 @@
 // The line of a verdict.
-use crate::text::put_byte;
-use crate::text::put_spaced;
-use crate::text::put_text;
+use text::put::put_byte;
+use text::put::put_spaced;
+use text::put::put_text;
 use verifier::verdict::Finding;
 use verifier::verdict::Verdict;
 ghost use mathlib.Core.Path.{_≡_};
@@ -9,7 +9,7 @@ ghost use Prim.Native.Nat.{_≤_};
 ghost use lib.ListN.{length};
 ghost use Rattle.bits.specs.Outcomes.{refuses};
 ghost use Rattle.verifier.specs.Verdict.{verdict-outcome};
-ghost use Rattle.listing.specs.Text.{Put};
+ghost use Rattle.text.specs.Text.{Put};
 ghost use Rattle.listing.specs.Listing.{lists, verdict-line, longest-verdict};
 
 // The most bytes that the line of a verdict has.

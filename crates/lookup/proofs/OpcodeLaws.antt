@@ -3,37 +3,23 @@ use mathlib.Core.Path.{_≡_, refl, sym, ap, _∙_, subst}
 use mathlib.Core.Bool.{Bool, true, false}
 use mathlib.Core.List.{List, [], _∷_}
 use mathlib.Core.Option.{Option, none, some, Option·map, Option·some-injective, Option·none-ne-some, Option·some-ne-none}
-use Prim.Native.Nat.{ℕ, zero, suc, _+_, _<_, _≤_}
+use Prim.Native.Nat.{ℕ, zero, suc, _+_, _<_}
 use native.Mathlib.Nat.{not-suc-le-zero, le-of-suc-le-suc, zero-add, add-zero}
 use native.Mathlib.Omega.{arith}
 use lib.Dec.{eqb, ltb}
 use lib.ListN.{length, getD}
 use borrow.Author.Tests.{eqb-true, eqb-false, ltb-true, ltb-false, lt-ltb}
 use Rattle.bits.specs.Fields.{bits, choose}
+use Rattle.bits.specs.Lists.{kth}
 use Rattle.bits.proofs.Every.{clash}
 use Rattle.rows.specs.Rows.{Row, rows, row-of, no-row, row-count}
 use Rattle.rows.specs.Layout.{fits, find}
 use Rattle.rows.proofs.TableLaws.{in-table, count-rows}
 use Rattle.rows.proofs.RowLaws.{opcode-there}
 use Rattle.rows.proofs.FindLaws.{find-fits, find-row}
-use Rattle.lookup.specs.Opcodes.{having, rows-with, kth, row-with, first-fit, row-for, OwnRows}
+use Rattle.lookup.specs.Opcodes.{having, rows-with, row-with, first-fit, row-for, OwnRows}
 use Rattle.lookup.specs.served.Lines.{line-of, OwnRow}
 use Rattle.lookup.specs.declared.Line.{Line}
-
--- ---- the k-th of a list
-
-pub kth-past : {A : Type 0} (xs : List A) (k : ℕ) → length xs ≤ k → kth xs k ≡ none
-unfolding kth
-kth-past [] k h = refl
-kth-past (x ∷ xs) zero h = absurd (not-suc-le-zero h)
-kth-past (x ∷ xs) (suc k) h = kth-past xs k (le-of-suc-le-suc h)
-
-pub kth-stays : {A : Type 0} (xs : List A) (j k : ℕ) → kth xs j ≡ none → j ≤ k → kth xs k ≡ none
-unfolding kth
-kth-stays [] j k e h = refl
-kth-stays (x ∷ xs) zero k e h = absurd (Option·some-ne-none x e)
-kth-stays (x ∷ xs) (suc j) zero e h = absurd (not-suc-le-zero h)
-kth-stays (x ∷ xs) (suc j) (suc k) e h = kth-stays xs j k e (le-of-suc-le-suc h)
 
 -- ---- the rows of an opcode
 

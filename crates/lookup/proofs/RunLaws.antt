@@ -10,18 +10,20 @@ use lib.Dec.{T, eqb, ltb, leb, ltb→lt, leb→le}
 use lib.ListN.{length}
 use borrow.Author.Tests.{eqb-true, ltb-true, ltb-false, le-leb}
 use Rattle.bits.specs.Fields.{choose}
+use Rattle.bits.specs.Lists.{kth}
+use Rattle.bits.proofs.ListLaws.{kth-past, kth-stays}
 use Rattle.bits.proofs.Every.{every, alike, alike-eq, and-l, and-r}
 use Rattle.rows.specs.Rows.{Row, rows, row-count}
 use Rattle.rows.specs.served.Table.{upto}
 use Rattle.rows.proofs.SetOfLaws.{upto-at}
-use Rattle.lookup.specs.Opcodes.{having, rows-with, kth, row-with, Indexes}
+use Rattle.lookup.specs.Opcodes.{having, rows-with, row-with, Indexes}
 use Rattle.lookup.specs.served.Keyed.{lookup}
 use Rattle.lookup.specs.served.Slots.{block-at, slot-of}
 use Rattle.lookup.specs.served.Runs.{no-run, runs, run-at, moved, row-in, listed}
 use Rattle.lookup.specs.declared.opcodes.Run.{Run}
 use Rattle.lookup.proofs.KeyedLaws.{tested, lookup-passes}
 use Rattle.lookup.proofs.SlotLaws.{no-slot}
-use Rattle.lookup.proofs.OpcodeLaws.{kth-past, kth-stays, with-opcode, with-order, with-row, with-one}
+use Rattle.lookup.proofs.OpcodeLaws.{with-opcode, with-order, with-row, with-one}
 
 abbrev pub run-of : ℕ → Run
 run-of opcode = run-at (slot-of opcode)

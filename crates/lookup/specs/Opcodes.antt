@@ -4,9 +4,10 @@ use mathlib.Core.Path.{_≡_}
 use mathlib.Core.Bool.{true}
 use mathlib.Core.List.{List, [], _∷_}
 use mathlib.Core.Option.{Option, none, some}
-use Prim.Native.Nat.{ℕ, zero, suc, _<_, _≤_}
+use Prim.Native.Nat.{ℕ, suc, _<_, _≤_}
 use lib.Dec.{eqb}
 use Rattle.bits.specs.Fields.{bits, choose}
+use Rattle.bits.specs.Lists.{kth}
 use Rattle.rows.specs.Rows.{Row, rows, row-of, row-count}
 use Rattle.rows.specs.Layout.{fits}
 use Rattle.lookup.specs.declared.opcodes.RowFound.{RowFound}
@@ -20,12 +21,6 @@ having opcode (r ∷ rs) i = choose (eqb (r .opcode) opcode) (i ∷ having opcod
 -- the rows of an opcode, in row order
 abbrev pub rows-with : ℕ → List ℕ
 rows-with opcode = having opcode rows 0
-
--- the k-th of a list, from 0, or none
-unfoldable pub kth : {A : Type 0} → List A → ℕ → Option A
-kth [] k = none
-kth (x ∷ xs) zero = some x
-kth (x ∷ xs) (suc k) = kth xs k
 
 -- what the call gives: the k-th row that has the opcode, from 0 in row order, or none
 abbrev pub row-with : ℕ → ℕ → Option ℕ

@@ -7,3 +7,4 @@ pub mod ReasonLaws
 pub mod LazyChecks
 pub mod NumberedLaws
 pub mod PackedLaws
+pub mod ReadLaws

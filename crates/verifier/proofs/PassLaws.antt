@@ -21,7 +21,7 @@ use Rattle.verifier.specs.Program.{Program, successors, landing, after, 
 use Rattle.verifier.specs.declared.verdict.Finding.{Finding}
 use Rattle.verifier.specs.declared.verdict.Verdict.{Verdict}
 use Rattle.verifier.specs.declared.verdict.Verdict.the-variants.{Accepted, Refused}
-use Rattle.verifier.specs.Verdict.{Judgement, verdict-outcome, finding, no-register, first, each, none-missing, judge-opening, judge-reading, judge-word, judge-successor, judge-flow, judge-index, judge-program, verdict-of}
+use Rattle.verifier.specs.Verdict.{Judgement, verdict-outcome, finding, no-register, first, each, none-missing, judge-opening, judge-reading, judge-word, judge-successor, judge-flow, judge-index, judge-program, verdict-of, all-read}
 use Rattle.verifier.proofs.VerdictLaws.{then-none, first-more, first-stop}
 
 -- a verdict and what follows it
@@ -60,8 +60,8 @@ module _ (words : List ℕ) where
     unread b l e q = q ∙ sym (then-refused b (first-stop (judge-word words) i n l h (sym (ap (judge-reading i) e))))
 
     -- all n read
-    pub all-read : (b : Judgement) → i ≡ n → b ≡ (first (judge-word words) n then b)
-    all-read b q = sym (then-passed b (ap (first (judge-word words)) (sym q) ∙ h))
+    pub ended : (b : Judgement) → i ≡ n → b ≡ (first (judge-word words) n then b)
+    ended b q = sym (then-passed b (ap (first (judge-word words)) (sym q) ∙ h))
 
 -- the pass over n words and annotations
 module _ (words annotations : List ℕ) (n : ℕ) where
@@ -91,7 +91,7 @@ module _ (words annotations : List ℕ) (n : ℕ) where
       fails l q z er = er ∙ ap (λ (b : Judgement). first (judge-word words) n then b) (sym (first-stop (judge-index P) i n l (p .judged) (sym (same q) ∙ z)))
 
     pub passed-all : i ≡ n → passes ≡ (first (judge-word words) n then first (judge-index P) n)
-    passed-all q = sym (ap (first (judge-index P)) (sym q) ∙ p .judged) ∙ all-read words i n (p .reads) (first (judge-index P) n) q
+    passed-all q = sym (ap (first (judge-index P)) (sym q) ∙ p .judged) ∙ ended words i n (p .reads) (first (judge-index P) n) q
 
 -- 23 before the instructions, and after the words
 module _ (words annotations : List ℕ) (n entry : ℕ) {v : Judgement} (hv : v ≡ none-missing 23 0 (annotation-at annotations 0) entry) where
@@ -107,6 +107,10 @@ module _ (words annotations : List ℕ) (n entry : ℕ) {v : Judgement} (hv : v 
 pub unopened : (s : List ℕ) {n : ℕ} {r : Judgement} → open-outcome s ≡ refuses (unplaced n) → r ≡ refuses (finding n 0 0 no-register) → r ≡ verdict-of s
 unfolding verdict-of
 unopened s o e = e ∙ sym (then-refused _ (ap judge-opening o))
+
+pub unopened-read : (s : List ℕ) {n : ℕ} {r : Judgement} → open-outcome s ≡ refuses (unplaced n) → r ≡ refuses (finding n 0 0 no-register) → r ≡ all-read s
+unfolding all-read
+unopened-read s o e = e ∙ sym (then-refused _ (ap judge-opening o))
 
 -- one that does: its words and annotations, as they are lent, and the verdict on them
 module _ (s notes : List ℕ) (h : Header) (o : open-outcome s ≡ gives h) (notes-are : notes ≡ annotations-of s) where
@@ -134,3 +138,7 @@ module _ (s notes : List ℕ) (h : Header) (o : open-outcome s ≡ gives h) (not
   opened-to e =
       let z = sized s o in
       e ∙ rw (words-are, notes-are, z .counts, z .enters) (sym (then-passed _ (ap judge-opening o)))
+
+  pub opened-read : {r : Judgement} → r ≡ first (judge-word Words) n → r ≡ all-read s
+  unfolding all-read
+  opened-read e = e ∙ rw (words-are, sized s o .counts) (sym (then-passed _ (ap judge-opening o)))

@@ -86,3 +86,7 @@ verdict-of s =
     judge-opening (open-outcome s)
     then first (judge-word (words-of s)) (count-of s)
     then judge-program (program-of s)
+
+-- opening and reading alone: passes for a well-formed container, else the refusal that the verdict has too
+unfoldable pub all-read : List ℕ → Judgement
+all-read s = judge-opening (open-outcome s) then first (judge-word (words-of s)) (count-of s)

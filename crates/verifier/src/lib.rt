@@ -1,5 +1,6 @@
 // The verifier (the paper's check): whether a container's annotations prove that no walk reads a register that is not defined there.
 use crate::program::judge_words;
+use crate::program::read_from;
 use crate::verdict::NO_REGISTER;
 use crate::verdict::Verdict;
 use crate::verdict::refused;
@@ -10,7 +11,7 @@ use container::layout::WORD_LENGTH;
 use container::parts::annotations;
 ghost use mathlib.Core.Path.{_≡_};
 ghost use Rattle.bits.specs.Outcomes.{passes};
-ghost use Rattle.verifier.specs.Verdict.{verdict-outcome, verdict-of};
+ghost use Rattle.verifier.specs.Verdict.{verdict-outcome, verdict-of, all-read};
 ghost use Rattle.verifier.specs.Demand3.{Demand3At};
 ghost use Rattle.verifier.specs.Reasons.{Grounded};
 
@@ -34,6 +35,22 @@ pub fn verify(bytes: &[u8]) -> Verdict
         }
         Opening::Refused(number) => {
             return refused(number, 0, 0, NO_REGISTER);
+        }
+    }
+}
+
+// Opens a container and reads its words, and no more: accepted, or the first refusal of that.
+pub fn read_all(bytes: &[u8]) -> Verdict
+    ensures { λ r. ⌜ verdict-outcome r ≡ all-read (now (bytes .entry)) ⌝ }
+{
+    match open(bytes) {
+        Opening::Opened(header) => {
+            let n = header.count;
+            let middle = HEADER_LENGTH + WORD_LENGTH * n;
+            return read_from(&bytes[HEADER_LENGTH..middle], n, 0);
+        }
+        Opening::Refused(reason) => {
+            return refused(reason, 0, 0, NO_REGISTER);
         }
     }
 }

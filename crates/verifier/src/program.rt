@@ -32,10 +32,10 @@ pub fn reading_at(words: &[u8], n: usize, i: usize) -> Reading
     read_word(&words[start..end])
 }
 
-// The first refusal of a word from index `from` on, where all before read; else the refusal f.
-fn unreadable_from(words: &[u8], n: usize, from: usize, f: Finding) -> Verdict
+// The first refusal of a word from index `from` on, where all before read.
+pub(crate) fn read_from(words: &[u8], n: usize, from: usize) -> Verdict
     requires { ⌜ Worded (now words) n × (from ≤ n) × (first (judge-word (now words)) from ≡ passes) ⌝ }
-    ensures { λ r. ⌜ verdict-outcome r ≡ (first (judge-word (now (words .entry))) n then refuses f) ⌝ }
+    ensures { λ r. ⌜ verdict-outcome r ≡ first (judge-word (now (words .entry))) n ⌝ }
 {
     let mut i = from;
     while i < n {
@@ -48,7 +48,19 @@ fn unreadable_from(words: &[u8], n: usize, from: usize, f: Finding) -> Verdict
         }
         i += 1;
     }
-    Verdict::Refused(f)
+    Verdict::Accepted
+}
+
+// The same, and else the refusal f.
+fn unreadable_from(words: &[u8], n: usize, from: usize, f: Finding) -> Verdict
+    requires { ⌜ Worded (now words) n × (from ≤ n) × (first (judge-word (now words)) from ≡ passes) ⌝ }
+    ensures { λ r. ⌜ verdict-outcome r ≡ (first (judge-word (now (words .entry))) n then refuses f) ⌝ }
+{
+    let v = read_from(words, n, from);
+    match v {
+        Verdict::Accepted => Verdict::Refused(f),
+        Verdict::Refused(x) => Verdict::Refused(x),
+    }
 }
 
 // The verdict on the words and, where all of them read, on the instructions one by one.

@@ -1,8 +1,9 @@
 //! Times the library against the reference on the same inputs, in turns, and prints a table.
 //!
 //! The buffers hold the inputs before the clock starts; the form that a word is read into is
-//! not cleared between words, nor the notes between programs. An argument names the lister,
-//! which is timed as a whole process.
+//! not cleared between words, nor the notes between programs, nor the lines between comparisons.
+//! The reference makes a new list for each comparison. An argument names the lister, which is
+//! timed as a whole process.
 
 use inputs::{Program, Rng, Shape, encode, instruction, refused_word, with_word};
 use reference::{Instruction, ROW_COUNT, ROWS, Verdict};
@@ -19,6 +20,8 @@ const PASS: usize = 8192;
 const REPEATS: usize = 501;
 /// The same for the maker of notes, whose passes are long.
 const MAKER_REPEATS: usize = 51;
+/// The most instructions that a parcel has.
+const LONGEST: usize = 2048;
 /// Runs of the lister.
 const RUNS: usize = 101;
 
@@ -47,11 +50,15 @@ fn main() -> ExitCode {
     for (name, program) in [("straight", Program::nops(2048)), ("branchy", branchy())] {
         agreed &= time_infer(name, &program);
     }
+    let (first, second) = different();
+    for (name, second) in [("equal", first.clone()), ("all differ", second)] {
+        agreed &= time_differences(name, &first, &second);
+    }
     if !agreed {
         return ExitCode::FAILURE;
     }
     println!("Both are release builds on the same inputs, timed in turns; no buffer is cleared between calls.");
-    println!("For infer an instruction's time is that of all its sweeps together.");
+    println!("For infer an instruction's time is that of all its sweeps together, for diff that of a pair.");
     match std::env::args_os().nth(1) {
         Some(lister) if Path::new(&lister).is_file() => time_lister(Path::new(&lister)),
         Some(_) => {
@@ -106,6 +113,16 @@ fn refused_words() -> Vec<[u8; 8]> {
 /// Accepted with the notes that are made for it.
 fn branchy() -> Program {
     Program::safe(&mut Rng::new(4), Shape { count: 2048, branches: 30, ends: 0, registers: 32 })
+}
+
+/// Two accepted parcels that differ in every instruction.
+fn different() -> (Vec<u8>, Vec<u8>) {
+    let mut rng = Rng::new(5);
+    let shape = Shape { count: LONGEST, branches: 10, ends: 0, registers: 32 };
+    let first = Program::safe(&mut rng, shape);
+    let second = Program::safe(&mut rng, shape);
+    assert!(first.words().iter().zip(second.words()).all(|(word, other)| *word != other));
+    (first.parcel(&first.exact()), second.parcel(&second.exact()))
 }
 
 /// The whole check on both sides; whether they agree.
@@ -166,6 +183,27 @@ fn time_infer(name: &str, program: &Program) -> bool {
     };
     let pass = Pass { instructions: program.count(), repeats: MAKER_REPEATS };
     report(&format!("infer, {name}, {sweeps} sweeps, n = {}", program.count()), pass, agree, rattle, rust)
+}
+
+/// The whole list of differences on both sides; whether they agree on it.
+fn time_differences(name: &str, first: &[u8], second: &[u8]) -> bool {
+    let (lines, agree) = match (vsp::differences(first, second), reference::differences(first, second)) {
+        (Ok(list), Ok(other)) => {
+            let contents = list.iter().map(|line| (line.index, line.first, line.second));
+            (list.len(), contents.eq(other.iter().map(|line| (line.index, line.first, line.second))))
+        }
+        _ => (0, false),
+    };
+    let mut room = vec![[0; 3]; vsp::DIFF_LINES];
+    let room = room.first_chunk_mut().expect("the room has this length");
+    let rattle = || {
+        black_box(vsp::raw::diff_lines(black_box(first), black_box(second), black_box(&mut *room)));
+    };
+    let rust = || {
+        let _ = black_box(reference::differences(black_box(first), black_box(second)));
+    };
+    let pass = Pass { instructions: LONGEST, ..Pass::default() };
+    report(&format!("diff, {name}, {lines} lines, n = {LONGEST}"), pass, agree, rattle, rust)
 }
 
 /// How many instructions a pass goes through, and how often it is timed.

@@ -1,14 +1,15 @@
 //! Paper 01 in plain Rust: the word reader and writer, the parcel, the check; and of paper 02
-//! the maker of notes and the rows of an opcode.
+//! the maker of notes, the rows of an opcode and the comparison of two parcels.
 //!
 //! Written from the papers alone, with tables of its own, so that it can stand beside the
 //! verified library in differential tests and as a baseline for its speed. Nothing here
-//! allocates but the maker.
+//! allocates but the maker and the comparison.
 //!
 //! What the paper calls a record is an [`Instruction`] here.
 
 mod check;
 mod codec;
+mod differences;
 mod infer;
 mod layout;
 mod parcel;
@@ -17,6 +18,7 @@ mod rows;
 
 pub use check::{Verdict, check};
 pub use codec::{Instruction, fresh, read, write};
+pub use differences::{Difference, Side, Unread, What, differences};
 pub use infer::{Fault, Narrowed, infer, narrow};
 pub use parcel::{HEADER, MAX_COUNT, Parcel};
 pub use refusal::Refusal;

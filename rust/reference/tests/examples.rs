@@ -1,7 +1,8 @@
 //! The paper's checked examples, and the reference's tables as wholes.
 
 use reference::{
-    Fault, Instruction, MODIFIER_BITS, Parcel, ROW_COUNT, ROWS, Refusal, Verdict, check, fresh, infer, read, write,
+    Difference, Fault, Instruction, MODIFIER_BITS, Parcel, ROW_COUNT, ROWS, Refusal, Side, Unread, Verdict, What,
+    check, differences, fresh, infer, read, write,
 };
 
 fn read_word(word: u64) -> Result<Instruction, Refusal> {
@@ -28,6 +29,10 @@ fn parcel(entry: u64, words: &[u64], notes: &[u64]) -> Vec<u8> {
 
 fn refused(refusal: Refusal, index: u16, register: u8) -> Verdict {
     Verdict::Refused { refusal, index, register }
+}
+
+fn line(what: What, index: u16, first: u64, second: u64) -> Difference {
+    Difference { what, index, first, second }
 }
 
 /// An instruction with a full destination, all else 0.
@@ -363,6 +368,73 @@ fn proposals() {
             .map_or(vec![0xA5; bytes.len()], |(notes, _)| notes.iter().flat_map(|note| note.to_le_bytes()).collect());
         assert_eq!(notes, expected, "{words:016X?}");
     }
+}
+
+/// Worked out by hand from the paper: the lists of parcels with entry set 4 and notes 0.
+#[test]
+fn comparisons() {
+    let nop = 0;
+    // FLUSH.f32 r0, r1 released, with NaN mode 2 and flush_inf.
+    let flush = 0x0098_C000_0000_0A41;
+    let examples: [(&[u64], &[u64], &[Difference]); 12] = [
+        (&[A], &[A], &[]),
+        (&[A], &[A | 0x40], &[line(What::Source(0), 0, 2, 0x42)]),
+        (&[A], &[A | 1 << 57], &[line(What::Page, 0, 0, 1)]),
+        (&[A], &[A | B], &[line(What::Flow, 0, 0, 15)]),
+        (&[A], &[A ^ 0x80 << 40], &[line(What::Destination, 0, 0xC1, 0x41)]),
+        (
+            &[B, A],
+            &[B, C],
+            &[line(What::Row, 1, 30, 37), line(What::Destination, 1, 0xC1, 0xC3), line(What::Source(0), 1, 2, 0x44)],
+        ),
+        (&[branch(2)], &[branch(-2)], &[line(What::Modifier(8), 0, 2, 0x7FF_FFFE)]),
+        // NaN mode and offset are one field, and both are 2; ftz is 0 on either side.
+        (
+            &[branch(2)],
+            &[flush],
+            &[
+                line(What::Row, 0, 1, 40),
+                line(What::Destination, 0, 0, 0xC0),
+                line(What::Source(0), 0, 0xC0, 0x41),
+                line(What::Modifier(11), 0, 0, 1),
+            ],
+        ),
+        (&[A], &[A, nop, B], &[line(What::Added, 1, 0, 0), line(What::Added, 2, 0, B)]),
+        (&[A, nop, B], &[A], &[line(What::Removed, 1, 0, 0), line(What::Removed, 2, B, 0)]),
+        (&[nop, A], &[B], &[line(What::Flow, 0, 0, 15), line(What::Removed, 1, A, 0)]),
+        (
+            &[0x00F0_C002_0002_0100],
+            &[0x00F0_C004_4002_0100],
+            &[line(What::Modifier(30), 0, 0, 1), line(What::Modifier(32), 0, 2, 4)],
+        ),
+    ];
+    for (first, second, lines) in examples {
+        let bytes = [first, second].map(|words| parcel(4, words, &vec![0; words.len()]));
+        assert_eq!(differences(&bytes[0], &bytes[1]), Ok(lines.to_vec()), "{first:016X?} {second:016X?}");
+    }
+}
+
+/// Entry sets and notes come last; a note without a counterpart isn't told.
+#[test]
+fn comparisons_of_sets() {
+    let first = parcel(4, &[A, B], &[4, 1]);
+    let second = parcel(5, &[A, B, B], &[6, 1, 7]);
+    let added = line(What::Added, 2, 0, B);
+    assert_eq!(differences(&first, &second), Ok(vec![added, line(What::Entry, 0, 4, 5), line(What::Note, 0, 4, 6)]));
+    assert_eq!(differences(&second, &second), Ok(Vec::new()));
+}
+
+/// The first parcel that doesn't open or read, whatever the second is.
+#[test]
+fn comparisons_that_are_refused() {
+    let good = parcel(0, &[A, B], &[0, 0]);
+    let stray = parcel(0, &[A, 1 << 63, 0x0091_C100_0000_00E0], &[0; 3]);
+    let unread = |side, refusal, index| Err(Unread { side, refusal, index });
+    assert_eq!(differences(&good, &stray), unread(Side::Second, Refusal::UnassignedBit, 1));
+    assert_eq!(differences(&stray, &good), unread(Side::First, Refusal::UnassignedBit, 1));
+    assert_eq!(differences(&stray, &good[..15]), unread(Side::First, Refusal::UnassignedBit, 1));
+    assert_eq!(differences(&good[..15], &stray), unread(Side::First, Refusal::Size, 0));
+    assert_eq!(differences(&good, &good[1..]), unread(Side::Second, Refusal::Mark, 0));
 }
 
 #[test]

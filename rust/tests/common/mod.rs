@@ -2,10 +2,10 @@
 #![allow(dead_code)]
 
 use inputs::Rng;
-use reference::{Fault, Instruction, Refusal, Verdict};
+use reference::{Difference, Fault, Instruction, Refusal, Side, Unread, Verdict, What};
 use std::path::{Path, PathBuf};
 use std::process::Command;
-use vsp::{FORM, Form, raw};
+use vsp::{DIFF_LINES, FORM, Form, raw};
 
 /// Room on both sides of a lent buffer, to see writes that go astray.
 const MARGIN: usize = 16;
@@ -80,6 +80,32 @@ pub fn inference_code(answer: Result<u32, Fault>) -> u64 {
         Ok(sweeps) => u64::from(sweeps) << 16,
         Err(Fault { refusal, index, register }) => verdict_code(Verdict::Refused { refusal, index, register }),
     }
+}
+
+/// Number + 2^8 place + 2^16 index + 2^32 register + 2^48 parcel.
+pub fn unread_code(unread: &Unread) -> u64 {
+    let parcel = match unread.side {
+        Side::First => 1,
+        Side::Second => 2,
+    };
+    u64::from(code(unread.refusal)) | u64::from(unread.index) << 16 | 64 << 32 | parcel << 48
+}
+
+/// The three numbers of a line as documented.
+fn numbers(line: &Difference) -> raw::Line {
+    let (what, which) = match line.what {
+        What::Row => (0, 0),
+        What::Page => (1, 0),
+        What::Flow => (2, 0),
+        What::Destination => (3, 0),
+        What::Source(index) => (4, index),
+        What::Modifier(low) => (5, low),
+        What::Added => (6, 0),
+        What::Removed => (7, 0),
+        What::Entry => (8, 0),
+        What::Note => (9, 0),
+    };
+    [what | u64::from(which) << 8 | u64::from(line.index) << 16, line.first, line.second]
 }
 
 /// The form of an instruction, byte by byte as documented.
@@ -251,6 +277,98 @@ pub fn compare_infer(rng: &mut Rng, words: &[u8], entry: u64, length: usize) -> 
     }
     assert_eq!(safe, after, "the buffer of {length} bytes after {entry:X}, {}", hex(words));
     answer
+}
+
+/// Compares parcels with both.
+pub struct Comparer {
+    rng: Rng,
+    /// Random lines, with one to spare on both sides of the room for a list.
+    before: Vec<raw::Line>,
+    buffer: Vec<raw::Line>,
+}
+
+impl Comparer {
+    pub fn new(seed: u64) -> Comparer {
+        let mut rng = Rng::new(seed);
+        let before: Vec<raw::Line> = (0..1 + DIFF_LINES + 1).map(|_| [rng.bits(), rng.bits(), rng.bits()]).collect();
+        Comparer { rng, buffer: before.clone(), before }
+    }
+
+    /// Lists all lines with both, and each line of a short list, the lines at the ends and in the
+    /// middle of a long one, and lines that aren't there; gives back the list.
+    pub fn compare(&mut self, first: &[u8], second: &[u8]) -> Result<Vec<Difference>, Unread> {
+        let expected = reference::differences(first, second);
+        self.compare_list(first, second, &expected);
+        let count = expected.as_ref().map_or(0, Vec::len);
+        let mut ks: Vec<usize> = if count <= 40 { (0..count).collect() } else { vec![0, 1, count / 2, count - 1] };
+        ks.extend([count, count + 1, count + self.rng.below(1 << 20), DIFF_LINES, usize::MAX]);
+        for k in ks {
+            self.compare_line(first, second, k, &expected);
+        }
+        expected
+    }
+
+    /// The whole list, and the buffer after it.
+    fn compare_list(&mut self, first: &[u8], second: &[u8], expected: &Result<Vec<Difference>, Unread>) {
+        let answer = raw::diff_lines(first, second, self.buffer[1..].first_chunk_mut().unwrap());
+        let lines: Vec<raw::Line> = expected.iter().flatten().map(numbers).collect();
+        let code = expected.as_ref().map_or_else(unread_code, |_| (lines.len() as u64) << 16);
+        assert_eq!(answer, code, "{}", pair(first, second));
+        let rest = 1 + lines.len();
+        assert_eq!(self.buffer[0], self.before[0], "what precedes the lines of {}", pair(first, second));
+        assert_eq!(self.buffer[1..rest], lines, "{}", pair(first, second));
+        assert!(self.buffer[rest..] == self.before[rest..], "what follows the lines of {}", pair(first, second));
+        self.buffer[1..rest].copy_from_slice(&self.before[1..rest]);
+        let typed = expected.as_ref().map(|list| list.iter().map(typed).collect()).map_err(typed_unread);
+        assert_eq!(vsp::differences(first, second), typed, "{}", pair(first, second));
+    }
+
+    /// Line k; where there is none its three numbers stay.
+    pub fn compare_line(&mut self, first: &[u8], second: &[u8], k: usize, expected: &Result<Vec<Difference>, Unread>) {
+        let mut numbers_of_line = [0; 5].map(|_: u64| self.rng.bits());
+        let mut after = numbers_of_line;
+        let expected = expected.as_ref().map(|list| list.get(k));
+        if let Ok(Some(line)) = expected {
+            after[1..4].copy_from_slice(&numbers(line));
+        }
+        let answer = raw::diff_line(first, second, k, numbers_of_line[1..].first_chunk_mut().unwrap());
+        let code = expected.map_or_else(unread_code, |line| line.map_or(raw::FEWER, |_| 0));
+        assert_eq!(answer, code, "line {k}, {}", pair(first, second));
+        assert_eq!(numbers_of_line, after, "line {k}, {}", pair(first, second));
+        let typed = expected.map(|line| line.map(typed)).map_err(typed_unread);
+        assert_eq!(vsp::difference(first, second, k), typed, "line {k}, {}", pair(first, second));
+    }
+}
+
+/// Both parcels, for a message.
+fn pair(first: &[u8], second: &[u8]) -> String {
+    format!("{} against {}", hex(first), hex(second))
+}
+
+/// The line in the wrapper's types.
+fn typed(line: &Difference) -> vsp::Difference {
+    let what = match line.what {
+        What::Row => vsp::What::Row,
+        What::Page => vsp::What::Page,
+        What::Flow => vsp::What::Flow,
+        What::Destination => vsp::What::Destination,
+        What::Source(index) => vsp::What::Source(index),
+        What::Modifier(low) => vsp::What::Modifier(low),
+        What::Added => vsp::What::Added,
+        What::Removed => vsp::What::Removed,
+        What::Entry => vsp::What::Entry,
+        What::Note => vsp::What::Note,
+    };
+    vsp::Difference { what, index: line.index, first: line.first, second: line.second }
+}
+
+fn typed_unread(unread: &Unread) -> vsp::Unread {
+    let side = match unread.side {
+        Side::First => vsp::Side::First,
+        Side::Second => vsp::Side::Second,
+    };
+    let vsp::Refusal { number, place } = from_refusal(unread.refusal);
+    vsp::Unread { side, number, place, index: unread.index, register: 64 }
 }
 
 /// The parcel with these words and notes.

@@ -1,6 +1,6 @@
 use mathlib.Core.Path.{sym}
 use lib.Seq.{length-take-le}
-use Rattle.listing.proofs.TextLaws.{put-room, put-front}
+use Rattle.text.proofs.TextLaws.{put-room, put-front}
 use borrow.Author.Needs.{needs}
 use Rattle.maker.proofs.refuse.Statement.{statement}
 use Rattle.maker.proofs.refuse.Tie as tie

@@ -1,5 +1,5 @@
 use native.Mathlib.Omega.{arith}
-use Rattle.listing.proofs.TextLaws.{put-next}
+use Rattle.text.proofs.TextLaws.{put-next}
 use Rattle.listing.proofs.LineLaws.{line-put}
 use borrow.Author.Needs.{needs}
 use Rattle.listing.proofs.line.put_line.Statement.{statement}

@@ -6,9 +6,9 @@ use lib.ListN.{length, length-take, length-drop}
 use denote.Ref.{now}
 use Rattle.container.specs.Container.{count-of, words-of}
 use Rattle.container.proofs.WordLaws.{opened-count}
-use Rattle.listing.specs.Text.{Put}
+use Rattle.text.specs.Text.{Put}
 use Rattle.listing.specs.Listing.{lines, longest-line}
-use Rattle.listing.proofs.TextLaws.{put-next}
+use Rattle.text.proofs.TextLaws.{put-next}
 use borrow.Author.Needs.{needs}
 use Rattle.listing.proofs.line.put_lines.Statement.{statement}
 use Rattle.listing.proofs.line.put_lines.Tie as tie

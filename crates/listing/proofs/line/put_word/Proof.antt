@@ -2,7 +2,7 @@ use mathlib.Core.Path.{sym, ap, _∙_}
 use denote.Ref.{now}
 use Rattle.container.specs.Words.{fetched-outcome}
 use Rattle.listing.specs.Listing.{line}
-use Rattle.listing.proofs.TextLaws.{same-text}
+use Rattle.text.proofs.TextLaws.{same-text}
 use Rattle.listing.proofs.LineLaws.{fetched, never-missing}
 use borrow.Author.Needs.{needs}
 use Rattle.listing.proofs.line.put_word.Statement.{statement}

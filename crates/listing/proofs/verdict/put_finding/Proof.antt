@@ -1,7 +1,7 @@
 use native.Mathlib.Omega.{arith}
 use Rattle.rows.specs.Names.{ascii}
 use Rattle.listing.specs.Listing.{verdict-line}
-use Rattle.listing.proofs.TextLaws.{put-next}
+use Rattle.text.proofs.TextLaws.{put-next}
 use borrow.Author.Needs.{needs}
 use Rattle.listing.proofs.verdict.put_finding.Statement.{statement}
 use Rattle.listing.proofs.verdict.put_finding.Tie as tie

@@ -4,7 +4,7 @@ use Rattle.rows.specs.Names.{ascii}
 use Rattle.verifier.specs.declared.verdict.Verdict.{Verdict}
 use Rattle.verifier.specs.Verdict.{verdict-outcome}
 use Rattle.listing.specs.Listing.{verdict-line}
-use Rattle.listing.proofs.TextLaws.{same-text}
+use Rattle.text.proofs.TextLaws.{same-text}
 use borrow.Author.Needs.{needs}
 use Rattle.listing.proofs.verdict.put_verdict.Statement.{statement}
 use Rattle.listing.proofs.verdict.put_verdict.Tie as tie

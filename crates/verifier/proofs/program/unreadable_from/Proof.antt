@@ -1,75 +1,24 @@
-use mathlib.Core.Path.{_≡_, sym, ap, _∙_}
-use Prim.Native.Nat.{_≤_, _-_}
-use native.Mathlib.Omega.{arith}
-use denote.Ref.{now}
+use mathlib.Core.Path.{refl}
 use borrow.Author.Needs.{needs}
-use Rattle.bits.specs.Outcomes.{passes}
-use Rattle.reader.specs.Answers.{reading}
-use Rattle.verifier.specs.Verdict.{first, judge-word}
-use Rattle.verifier.proofs.PassLaws.{unread, read-on, all-read}
+use Rattle.verifier.proofs.PassLaws.{followed, halted}
 use Rattle.verifier.proofs.program.unreadable_from.Statement.{statement}
 use Rattle.verifier.proofs.program.unreadable_from.Tie as tie
-use Rattle.verifier.proofs.program.unreadable_from.Reads as reads
-use Rattle.verifier.proofs.program.unreadable_from.Lts as lts
-use Rattle.verifier.proofs.program.reading_at.Reads as reading-at-reads
-use Rattle.verifier.proofs.verdict.refused.Reads as refused-reads
 
-abbrev Inv-loop : tie.InvT-loop
-Inv-loop words n from f i₀ i = (i ≤ n) × (first (judge-word words) i ≡ passes)
+read-from-requires : tie.Need-read-from-requires
+read-from-requires c κs = search needs
 
-abbrev μ-loop : tie.MeasureT-loop
-μ-loop words n from f i₀ i = n - i
-
-loop-holds : tie.Need-loop-holds Inv-loop μ-loop
-loop-holds c = search needs
-
-reading-at-requires : tie.Need-reading-at-requires Inv-loop μ-loop
-reading-at-requires c κs = search needs
-
-enum-told : tie.Need-enum-told Inv-loop μ-loop
+enum-told : tie.Need-enum-told
 enum-told c = search needs
 
-enum-known-r : tie.Need-enum-known-r Inv-loop μ-loop
-enum-known-r c = search needs
+enum-known-v : tie.Need-enum-known-v
+enum-known-v c = search needs
 
-refused-requires : tie.Need-refused-requires Inv-loop μ-loop
-refused-requires c κs = search needs
+returns : tie.Need-returns
+returns c = followed (c .enum-told .given .1) (c .before .before .read-from .ensures) refl
 
-returns : tie.Need-returns Inv-loop μ-loop
-returns c =
-    let a = c .before .before .before .before .before .before .before .before .args in
-    unread (now (a .words)) (c .before .before .before .before .before .before .loop .i) (a .n) (c .before .before .before .before .before .before .loop .inv .1) _ (c .before .before .before .before .before .loop-test .taken)
-    (ap reading (sym (c .before .before .r .given .1)) ∙ c .before .before .before .before .reading-at .ensures) (c .refused .ensures)
-
-add-i : tie.Need-add-i Inv-loop μ-loop
-add-i c = search needs
-
-loop-less : tie.Need-loop-less Inv-loop μ-loop
-loop-less c = search needs
-
-loop-again : tie.Need-loop-again Inv-loop μ-loop
-loop-again c =
-    let a = c .before .before .before .before .before .before .args in
-    (search needs, read-on (now (a .words)) (c .before .before .before .before .loop .i) (c .before .before .before .before .loop .inv .1) (ap reading (sym (c .enum-told .given .1)) ∙ c .before .before .reading-at .ensures))
-
-returns-2 : tie.Need-returns-2 Inv-loop μ-loop
-returns-2 c =
-    let a = c .before .before .before .args in
-    all-read (now (a .words)) (c .before .loop .i) (a .n) (c .before .loop .inv .1) _ (omega arith)
+returns-2 : tie.Need-returns-2
+returns-2 c = halted _ (c .before .v .given .1) (c .before .before .before .read-from .ensures)
 
 pub unreadable-from-spec : {M : Type 1} → statement M
 unreadable-from-spec =
-    tie.close
-    (tie.spec
-    Inv-loop
-    μ-loop
-    loop-holds
-    reading-at-requires
-    enum-told
-    enum-known-r
-    refused-requires
-    returns
-    add-i
-    loop-less
-    loop-again
-    returns-2)
+    tie.close (tie.spec read-from-requires enum-told enum-known-v returns returns-2)

@@ -1,0 +1,109 @@
+-- The answers of a comparison by whether both containers open and read. Assumes nothing.
+use mathlib.Core.Path.{_≡_, refl, sym, ap, _∙_, subst}
+use mathlib.Core.List.{List}
+use mathlib.Core.Option.{Option, some}
+use Prim.Native.Nat.{ℕ, _<_, _≤_}
+use lib.ListN.{length}
+use Rattle.bits.specs.Lists.{kth}
+use Rattle.bits.specs.Outcomes.{Outcome, gives, refuses, passes, _then_, kept-or}
+use Rattle.bits.proofs.OutcomeLaws.{never, then-passed, then-refused, then-gives}
+use Rattle.container.specs.Container.{most-instructions}
+use Rattle.container.specs.Words.{open-count}
+use Rattle.container.proofs.WordLaws.{opened-count}
+use Rattle.verifier.specs.declared.verdict.Finding.{Finding}
+use Rattle.verifier.specs.Verdict.{Judgement, all-read}
+use Rattle.diff.specs.declared.answer.Side.the-variants.{First, Second}
+use Rattle.diff.specs.declared.answer.Unread.{Unread}
+use Rattle.diff.specs.declared.answer.Ready.{Ready}
+use Rattle.diff.specs.declared.answer.Ready.the-variants.{Both as both-ready, Unread as unready}
+use Rattle.diff.specs.declared.line.Line.{Line}
+use Rattle.diff.specs.Differences.{differences}
+use Rattle.diff.specs.Numbers.{front-filled, most-lines}
+use Rattle.diff.specs.Answers.{ready-outcome, of-side, both-read, line-outcome, list-outcome, list-buffer}
+use Rattle.diff.specs.served.Cursor.{Both, Counted}
+use Rattle.verifier.proofs.ReadLaws.{formed}
+use Rattle.diff.proofs.ListLaws.{kth-member}
+use Rattle.diff.proofs.FillLaws.{few-lines, small-index}
+
+module _ (a b : List ℕ) where
+  pub first-bad : {f : Finding} → refuses f ≡ all-read a → _≡_ {A = Outcome Unread (Unit {0})} (refuses (record { side = First; finding = f })) (both-read a b)
+  unfolding both-read
+  first-bad e = sym (then-refused (of-side Second (all-read b)) (ap (of-side First) (sym e)))
+
+  module _ (e : passes ≡ all-read a) where
+    second : of-side Second (all-read b) ≡ both-read a b
+    unfolding both-read
+    second = sym (then-passed (of-side Second (all-read b)) (ap (of-side First) (sym e)))
+
+    pub second-bad : {f : Finding} → refuses f ≡ all-read b → _≡_ {A = Outcome Unread (Unit {0})} (refuses (record { side = Second; finding = f })) (both-read a b)
+    second-bad q = ap (of-side Second) q ∙ second
+
+    pub none-bad : passes ≡ all-read b → passes ≡ both-read a b
+    none-bad q = ap (of-side Second) q ∙ second
+
+  -- both are read
+  module _ (e : passes ≡ both-read a b) where
+    parts : (x y : Judgement) → passes ≡ (of-side First x then of-side Second y) → (x ≡ passes) × (y ≡ passes)
+    unfolding _then_
+    parts (gives _) (gives _) q = (refl, refl)
+    parts (gives _) (refuses f) q = never (sym q)
+    parts (refuses f) y q = never (sym q)
+
+    pub are-both : Both a b
+    unfolding both-read
+    are-both =
+        let p = parts (all-read a) (all-read b) e in
+        record { first = formed a (p .0); second = formed b (p .1) }
+
+    pub counted-by : {n m : ℕ} → n ≡ open-count a → m ≡ open-count b → Counted a n b m
+    counted-by en em =
+        record {
+          both = are-both;
+          first-count = en ∙ opened-count a (are-both .first .opens);
+          second-count = em ∙ opened-count b (are-both .second .opens);
+        }
+
+    pub line-told : {o : Outcome Unread (Option Line)} (k : ℕ) → o ≡ gives (kth (differences a b) k) → o ≡ line-outcome a b k
+    unfolding line-outcome
+    line-told k q = q ∙ sym (then-passed (gives (kth (differences a b) k)) (sym e))
+
+    told : gives (length (differences a b)) ≡ list-outcome a b
+    unfolding list-outcome
+    told = sym (then-passed (gives (length (differences a b))) (sym e))
+
+    pub list-told : (n : ℕ) (out after : List ℕ) → (n ≡ length (differences a b)) × (after ≡ front-filled (differences a b) out)
+        → (gives n ≡ list-outcome a b) × (after ≡ list-buffer a b out)
+    unfolding list-buffer
+    list-told n out after (en, eb) = (ap gives en ∙ told, eb ∙ ap (λ (o : Outcome Unread ℕ). kept-or o (front-filled (differences a b) out) out) told)
+
+  module _ {u : Unread} (e : refuses u ≡ both-read a b) where
+    pub line-untold : (k : ℕ) → refuses u ≡ line-outcome a b k
+    unfolding line-outcome
+    line-untold k = sym (then-refused (gives (kth (differences a b) k)) (sym e))
+
+    untold : refuses u ≡ list-outcome a b
+    unfolding list-outcome
+    untold = sym (then-refused (gives (length (differences a b))) (sym e))
+
+    pub list-untold : (out : List ℕ) → (refuses u ≡ list-outcome a b) × (out ≡ list-buffer a b out)
+    unfolding list-buffer
+    list-untold out = (untold, ap (λ (o : Outcome Unread ℕ). kept-or o (front-filled (differences a b) out) out) untold)
+
+  -- a line that is told has the index of an instruction
+  pub line-index : (k : ℕ) {l : Line} → line-outcome a b k ≡ gives (some l) → l .index < most-instructions
+  unfolding line-outcome
+  line-index k {l} e =
+      let t = then-gives (both-read a b) (gives (kth (differences a b) k)) (some l) e in
+      small-index a b (are-both (sym (t .0))) (kth-member (differences a b) k (given (t .1)))
+    where
+      given : {x y : Option Line} → _≡_ {A = Outcome Unread (Option Line)} (gives x) (gives y) → x ≡ y
+      given q = cc q
+
+  pub list-few : {n : ℕ} → list-outcome a b ≡ gives n → n ≤ most-lines
+  unfolding list-outcome
+  list-few {n} e =
+      let t = then-gives (both-read a b) (gives (length (differences a b))) n e in
+      subst (λ (x : ℕ). x ≤ most-lines) (given (t .1)) (few-lines a b (are-both (sym (t .0))))
+    where
+      given : {x y : ℕ} → _≡_ {A = Outcome Unread ℕ} (gives x) (gives y) → x ≡ y
+      given q = cc q

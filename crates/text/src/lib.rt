@@ -1,0 +1,3 @@
+// Text at the front of a buffer: numbers, bytes and the names of instructions.
+pub mod name;
+pub mod put;
