@@ -1,6 +1,7 @@
 /*
- * Lists a parcel through the C interface: for each word its index, its digits and its row
- * number or refusal, then the verdict. Of a parcel that doesn't open, the verdict only.
+ * Lists a parcel through the C interface: for each word its index, its digits and the text of
+ * its instruction or its refusal, then the verdict. Of a parcel that doesn't open, the verdict
+ * only.
  * Exit status 0 where it is accepted, 1 where it is refused, 2 where the file can't be read
  * or standard output can't be written.
  *
@@ -32,15 +33,17 @@ static long load(const char *name)
 
 static void list_word(unsigned index, const uint8_t *word)
 {
-    uint8_t form[VSP_FORM];
+    uint8_t form[VSP_FORM], text[VSP_TEXT];
     uint32_t answer = vsp_read(word, VSP_WORD, form);
     printf("%04u ", index);
     for (int k = VSP_WORD - 1; k >= 0; k--)
         printf("%02X", word[k]);
-    if (answer == 0)
-        printf(" row %u\n", form[VSP_ROW]);
-    else
+    if (answer == 0) {
+        vsp_text(form, text);
+        printf(" %s\n", (const char *)text);
+    } else {
         printf(" refused %u place %u\n", VSP_NUMBER(answer), VSP_PLACE(answer));
+    }
 }
 
 /* Whether the verdict is about the words or notes of a parcel that opens. */

@@ -69,6 +69,9 @@
  *            -67108864 to 67108863
  *    28-31   padding, 0
  * What the row doesn't have is 0.
+ *
+ * vsp_text gives the text of a form, with the names of all of this, and vsp_name the name of a
+ * row.
  */
 #ifndef VSP_H
 #define VSP_H
@@ -83,6 +86,10 @@ extern "C" {
 /* The length of a word and of a form. */
 #define VSP_WORD 8
 #define VSP_FORM 32
+
+/* Room for the text of any form, and for the name of any row, with the 0 byte after it. */
+#define VSP_TEXT 534
+#define VSP_NAME 19
 
 /* From vsp_row_of: the opcode has no such row. */
 #define VSP_NO_ROW 255
@@ -124,7 +131,8 @@ enum {
 /*
  * The parts of an answer, but for vsp_row_of, which gives a row; place, index and register
  * mean something only where the number isn't 0 (nor the answer VSP_FEWER), and the last two
- * aren't for vsp_read, vsp_write and vsp_fresh.
+ * aren't for vsp_read, vsp_write and vsp_fresh. vsp_text and vsp_name give a length, which has
+ * none of these parts.
  */
 #define VSP_NUMBER(answer) ((unsigned)((answer) & 0xFF))
 #define VSP_PLACE(answer) ((unsigned)((answer) >> 8 & 0xFF))
@@ -219,6 +227,39 @@ uint32_t vsp_write(const uint8_t form[VSP_FORM], uint8_t *word, size_t length);
  * form as it was. A fresh instruction can always be written.
  */
 uint32_t vsp_fresh(size_t row, uint8_t form[VSP_FORM]);
+
+/*
+ * Gives the text of a form: the instruction as Mesa's disassembler for Valhall writes it, as
+ * FADD.f32.clamp_0_1.end r1.h0, ^r2.neg, u3.abs.h1. All of it is ASCII.
+ *
+ * The name of the row, the modifiers of the instruction itself, the flow; then the operands:
+ * the destination, the sources in order, the offset. A register is r and its number, with ^
+ * before it where it is released; a uniform is u and its number; a fixed number is in
+ * hexadecimal, as 0x3F800000; a special constant is its name, with .w0 for its low word and
+ * .w1 for its high word; an offset is as offset:-3. After a destination .h0 says that only the
+ * low half is written, .h1 only the high half; after a source come negate (.neg), absolute
+ * (.abs) and its widen, swizzle, lane or combine. Not written are the flow none, round mode
+ * rte, no clamp, widen or combine, swizzles h01 and b0123, and mux int_zero; condition eq,
+ * result type i1, lanes and NaN mode none are. The page shows in the sources only, and two of
+ * the 32 fixed numbers are 0, so two words can have the same text.
+ *
+ * Puts the text and a 0 byte after it at the front of the buffer, whose other bytes stay as
+ * they were, and gives the length of the text without the 0, which is never 0. No form is
+ * refused: a question mark stands where there is no name, be it for a row over 76, which then
+ * has no operands, for a reserved value, one past the end of its list, or a half mask that is
+ * none of the three. Registers, uniforms and offsets have the number that the form gives,
+ * however large. What the row doesn't have isn't looked at, nor is the padding.
+ */
+size_t vsp_text(const uint8_t form[VSP_FORM], uint8_t text[VSP_TEXT]);
+
+/*
+ * Gives the name of a row, as FADD.f32, in ASCII.
+ *
+ * Puts the name and a 0 byte after it at the front of the buffer, whose other bytes stay as
+ * they were, and gives the length of the name without the 0; or gives 0 where the row is over
+ * 76 and leaves the buffer as it was.
+ */
+size_t vsp_name(size_t row, uint8_t name[VSP_NAME]);
 
 /*
  * Gives the k-th row that has the opcode (bits 48 to 56 of a word), counted from 0 in row

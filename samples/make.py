@@ -36,6 +36,10 @@ The clauses, each given once at most:
     page 1    the page, 0 to 3, where no uniform tells it: constants from c32 on depend on it
     bit 8     bit 8 is 1 too, whether or not the instruction has a use for it
 
+In place of an instruction its word can stand, in 16 hex digits, for one that paper 01 does not have:
+
+    word 00B2C20000030442     | r2 r3 r4
+
 Whatever fits its field is taken, so that there can be samples of what the check refuses: a bit without a use, a reserved constant,
 a modifier's illegal value. Text after # is a comment."""
 import errno
@@ -178,9 +182,18 @@ def page(clauses, uniforms):
     return asked.pop() if asked else 0
 
 
+def plain_word(text):
+    """A word that is given by its digits."""
+    if not re.fullmatch('[0-9A-Fa-f]{16}', text):
+        raise Wrong(f'A word is 16 hex digits, and {text!a} is not.')
+    return int(text, 16)
+
+
 def instruction(text, index, count):
     """The word of instruction `index` of `count`."""
     name, _, rest = text.partition(' ')
+    if name == 'word':
+        return plain_word(rest.strip(' '))
     if name not in ROW_OF:
         raise Wrong(f'{name!a} is no instruction of paper 01.')
     row = ROWS[ROW_OF[name]]

@@ -442,4 +442,5 @@ def main(arguments):
 
 lows = {low for row in ROWS for low, _, _, _ in row['fields']} | {8}
 assert lows == {8, 10, 11, 24, 26, 28, 30, *range(32, 40)} - {33}, lows
-main(sys.argv[1:])
+if __name__ == '__main__':
+    main(sys.argv[1:])

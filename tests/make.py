@@ -48,6 +48,8 @@ WORDS = [
     ('BRANCHZ r0 to 0026 m37=7 m36=1 end', 0x781F00F7FFFFFF00),
     ('MOV.i32 r1, c36', 0x0091C100000000E4),
     ('MOV.i32 r1, c37', 0x0091C100000000E5),
+    ('word 00B2C20000030442', 0x00B2C20000030442),
+    ('word \tfedcba9876543210', 0xFEDCBA9876543210),
 ]
 
 # A line of code, with its bar and note, and how the sentence on it begins.
@@ -124,6 +126,15 @@ CODE = [
     ('NOP bit 8 bit 9 bit 8 |', 'bit 8 is given twice.'),
     ('NOP end end |', 'end is given twice.'),
     ('MOV.i32 r1 end r2 |', "'r2' stands behind a clause and is none."),
+    ('word |', "A word is 16 hex digits, and '' is not."),
+    ('word 00B2C2000003044 |', "A word is 16 hex digits, and '00B2C2000003044' is not."),
+    ('word 00B2C200000304420 |', "A word is 16 hex digits, and '00B2C200000304420' is not."),
+    ('word 0x00B2C200000304 |', "A word is 16 hex digits, and '0x00B2C200000304' is not."),
+    ('word 00B2C200 00030442 |', 'A word is 16 hex digits'),
+    ('word 00B2C20000030442 end |', 'A word is 16 hex digits'),
+    ('word \u0660\u0660B2C20000030442 |', 'A word is 16 hex digits'),
+    ('word 00B2C20000030442', 'The bar is missing'),
+    ('Word 00B2C20000030442 |', "'Word' is no instruction of paper 01."),
     ('FADD.f64 r1, r2, r3 |', "'FADD.f64' is no instruction of paper 01."),
     ('mov.i32 r1, r2 |', "'mov.i32' is no instruction"),
     ('entryr0 |', "'entryr0' is no instruction"),

@@ -4,52 +4,50 @@ It is the second opinion from which the expected outputs of the tests are made; 
 
 # ---- the rows, as the paper lists them
 
-
-
-
+# A field: its lowest bit, its width, its legal values, that of the fresh record, and its kind: 002's enumeration, or what it calls a flag.
 ALL = {n: set(range(1 << n)) for n in range(1, 5)}
 
 
 def N(k):
-    return [(38 - 2 * k, 1, ALL[1], 0), (39 - 2 * k, 1, ALL[1], 0)]
+    return [(38 - 2 * k, 1, ALL[1], 0, 'neg'), (39 - 2 * k, 1, ALL[1], 0, 'abs')]
 
 
 def F(k):
-    return [(28 - 2 * k, 2, {0, 1, 2}, 0)]
+    return [(28 - 2 * k, 2, {0, 1, 2}, 0, 'Widen')]
 
 
 def H(k):
-    return [(28 - 2 * k, 2, ALL[2], 2)]
+    return [(28 - 2 * k, 2, ALL[2], 2, 'Swizzles (16-bit), the first four')]
 
 
-def wide(k, legal, fresh):
-    return [(36 if k == 0 else 26, 4, legal, fresh)]
+def wide(k, legal, fresh, kind):
+    return [(36 if k == 0 else 26, 4, legal, fresh, kind)]
 
 
 def W32(k):
-    return wide(k, {0, 2, 3, 4, 5, 6, 7}, 0)
+    return wide(k, {0, 2, 3, 4, 5, 6, 7}, 0, 'Swizzles (32-bit)')
 
 
 def W16(k):
-    return wide(k, set(range(14)), 2)
+    return wide(k, set(range(14)), 2, 'Swizzles (16-bit)')
 
 
 def W8(k):
-    return wide(k, set(range(12)), 0)
+    return wide(k, set(range(12)), 0, 'Swizzles (8-bit)')
 
 
-R = [(30, 2, ALL[2], 0)]
-T = [(30, 2, ALL[2], 0)]
-C = [(32, 3, ALL[3], 0)]
-I = [(32, 3, set(range(6)), 0)]
-X = [(32, 2, ALL[2], 1)]
-LANE1 = [(28, 1, ALL[1], 0)]
-LANE2 = [(28, 2, ALL[2], 0)]
-HALF = [(36, 4, ALL[4], 0)]
-CLAMP = [(32, 2, ALL[2], 0)]
-SATURATE = [(30, 1, ALL[1], 0)]
-FLUSH = [(8, 2, {0, 1, 2}, 0), (10, 1, ALL[1], 0), (11, 1, ALL[1], 0)]
-BRANCH = [(37, 3, set(range(5)), 0), (36, 1, ALL[1], 0), (35, 1, ALL[1], 0)]
+R = [(30, 2, ALL[2], 0, 'Round mode')]
+T = [(30, 2, ALL[2], 0, 'Result type')]
+C = [(32, 3, ALL[3], 0, 'Condition')]
+I = [(32, 3, set(range(6)), 0, 'Condition')]
+X = [(32, 2, ALL[2], 1, 'Mux')]
+LANE1 = [(28, 1, ALL[1], 0, 'Lane (16-bit)')]
+LANE2 = [(28, 2, ALL[2], 0, 'Lane (8-bit)')]
+HALF = [(36, 4, ALL[4], 0, 'Half-swizzles (8-bit)')]
+CLAMP = [(32, 2, ALL[2], 0, 'Clamp')]
+SATURATE = [(30, 1, ALL[1], 0, 'saturate')]
+FLUSH = [(8, 2, {0, 1, 2}, 0, 'NaN mode'), (10, 1, ALL[1], 0, 'ftz'), (11, 1, ALL[1], 0, 'flush_inf')]
+BRANCH = [(37, 3, set(range(5)), 0, 'Combine'), (36, 1, ALL[1], 0, 'eq'), (35, 1, ALL[1], 0, 'conservative')]
 
 ROWS = []
 
@@ -61,7 +59,9 @@ def add(name, opcode, second, sources, fields, destination=True, offset=False):
         low = 16 if sources <= 2 else 24
         width = 5 if opcode == 0x90 else 2 if opcode in (0xF0, 0xF1, 0xF2, 0xF4, 0xF5, 0xF8, 0xF9, 0xFA) else 4
         place = (low, width, second)
-    ROWS.append(dict(name=name, opcode=opcode, second=place, sources=sources, fields=sorted(fields), destination=destination, offset=offset))
+    plain = sorted(field[:4] for field in fields)
+    kinds = {low: kind for low, _, _, _, kind in fields}
+    ROWS.append(dict(name=name, opcode=opcode, second=place, sources=sources, fields=plain, kinds=kinds, destination=destination, offset=offset))
 
 
 add('NOP', 0x00, None, 0, [], destination=False)

@@ -7,21 +7,28 @@
 //! ```no_run
 //! let word = 0x0091_C100_0000_0002_u64.to_le_bytes();
 //! match vsp::read(&word) {
-//!     Ok(form) => println!("row {} writes register {}", form.row, form.register),
-//!     Err(refusal) => println!("refused with {}", refusal.number),
+//!     // MOV.i32 r1, r2
+//!     Ok(form) => println!("{form}"),
+//!     Err(refusal) => println!("{refusal}"),
 //! }
 //! ```
 
+mod display;
 pub mod raw;
 
 /// The length of a word.
 pub const WORD: usize = 8;
 /// The length of the C interface's form of an instruction.
 pub const FORM: usize = 32;
+/// Room for the text of any instruction and the 0 byte after it.
+pub const TEXT: usize = 534;
+/// Room for the name of any row and the 0 byte after it.
+pub const NAME: usize = 19;
 /// No list of differences has more lines: 23 for each of 2048 instructions, and one.
 pub const DIFF_LINES: usize = 23 * 2048 + 1;
 
-/// The fields of an instruction. What its row has no place for is 0.
+/// The fields of an instruction. What its row has no place for is 0. [`text`] writes it out, as
+/// `Display` does.
 #[derive(Clone, Copy, Debug, Default, PartialEq, Eq)]
 pub struct Form {
     pub row: u8,
@@ -39,7 +46,8 @@ pub struct Form {
     pub offset: i32,
 }
 
-/// Why a word, an instruction or a row number is refused.
+/// Why a word, an instruction or a row number is refused. `Display` says it in words, as `refused
+/// with 6: a modifier has an illegal value (bit 32)`.
 #[derive(Clone, Copy, Debug, PartialEq, Eq)]
 pub struct Refusal {
     pub number: u8,
@@ -47,7 +55,8 @@ pub struct Refusal {
     pub place: u8,
 }
 
-/// The answer of [`check`], which says what an accepted parcel is and isn't.
+/// The answer of [`check`], which says what an accepted parcel is and isn't. `Display` says it in
+/// words, as `refused with 20 at instruction 3: it reads r5, which its note doesn't name`.
 #[derive(Clone, Copy, Debug, PartialEq, Eq)]
 pub enum Verdict {
     Accepted,
@@ -142,6 +151,14 @@ pub struct Unread {
 /// set names (bytes 8 to 15, little-endian, bit r for register r): the set is the parcel's own
 /// claim and is taken on trust, so compare it with what the display really fills. Accepted
 /// doesn't mean that the program computes the right thing, nor that it is the approved one.
+///
+/// ```no_run
+/// # fn main() -> std::io::Result<()> {
+/// let parcel = std::fs::read("samples/approved.vsp")?;
+/// println!("{}", vsp::check(&parcel));
+/// # Ok(())
+/// # }
+/// ```
 pub fn check(parcel: &[u8]) -> Verdict {
     let code = raw::check(parcel);
     if code == 0 {
@@ -198,6 +215,33 @@ pub fn fresh(row: u64) -> Result<Form, Refusal> {
     answer(raw::fresh(row, &mut form)).map(|()| Form::from_bytes(&form))
 }
 
+/// The text of an instruction, as Mesa's disassembler for Valhall writes it; `include/vsp.h` says
+/// what it is made of. It takes any numbers, legal or not: a question mark stands where there is
+/// no name.
+///
+/// ```no_run
+/// let form = vsp::Form { row: 30, flow: 15, register: 1, half_mask: 2, ..vsp::Form::default() };
+/// assert_eq!(vsp::text(&form), "MOV.i32.end r1.h1, r0");
+/// assert_eq!(format!("{form:>24};"), "   MOV.i32.end r1.h1, r0;");
+/// ```
+pub fn text(form: &Form) -> String {
+    form.to_string()
+}
+
+/// The name of a row, 0 to 76.
+///
+/// ```no_run
+/// assert_eq!(vsp::name(30).as_deref(), Some("MOV.i32"));
+/// assert_eq!(vsp::name(77), None);
+/// ```
+pub fn name(row: usize) -> Option<String> {
+    let mut name = [0; NAME];
+    match raw::name(row, &mut name) {
+        0 => None,
+        length => Some(ascii(&name[..length]).to_string()),
+    }
+}
+
 /// The k-th row that has an opcode (bits 48 to 56 of a word), counted from 0 in row order, or
 /// none: for any opcode, however large, and any k. An opcode has 25 rows at most.
 pub fn row_of(opcode: u64, k: u64) -> Option<u8> {
@@ -247,6 +291,11 @@ fn unread(code: u64) -> Unread {
         index: (code >> 16) as u16,
         register: (code >> 32) as u8,
     }
+}
+
+/// A text that the library has written.
+fn ascii(bytes: &[u8]) -> &str {
+    str::from_utf8(bytes).expect("the text is ASCII")
 }
 
 fn answer(code: u32) -> Result<(), Refusal> {

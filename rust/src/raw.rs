@@ -1,6 +1,6 @@
 //! The C functions with slices for pointers and lengths, and their codes as they come.
 
-use crate::{DIFF_LINES, FORM};
+use crate::{DIFF_LINES, FORM, NAME, TEXT};
 
 /// From [`row_of`]: the opcode has no such row.
 pub const NO_ROW: u32 = 255;
@@ -15,6 +15,8 @@ unsafe extern "C" {
     fn vsp_read(word: *const u8, length: usize, form: *mut u8) -> u32;
     fn vsp_write(form: *const u8, word: *mut u8, length: usize) -> u32;
     fn vsp_fresh(row: u64, form: *mut u8) -> u32;
+    fn vsp_text(form: *const u8, text: *mut u8) -> usize;
+    fn vsp_name(row: usize, name: *mut u8) -> usize;
     fn vsp_row_of(opcode: u64, k: u64) -> u32;
     fn vsp_infer(words: *const u8, length: usize, entry: u64, notes: *mut u8, notes_length: usize) -> u64;
     fn vsp_diff_line(
@@ -56,6 +58,20 @@ pub fn write(form: &[u8; FORM], word: &mut [u8]) -> u32 {
 pub fn fresh(row: u64, form: &mut [u8; FORM]) -> u32 {
     // SAFETY: the form is 32 bytes to write to.
     unsafe { vsp_fresh(row, form.as_mut_ptr()) }
+}
+
+/// The length of the text, which is at the front of the buffer with a 0 byte after it; the other
+/// bytes stay.
+pub fn text(form: &[u8; FORM], text: &mut [u8; TEXT]) -> usize {
+    // SAFETY: the form is 32 bytes to read; the text has room for any text, apart from the form.
+    unsafe { vsp_text(form.as_ptr(), text.as_mut_ptr()) }
+}
+
+/// The length of the name, which is at the front of the buffer with a 0 byte after it; the other
+/// bytes stay. Or 0; then the whole buffer keeps its bytes.
+pub fn name(row: usize, name: &mut [u8; NAME]) -> usize {
+    // SAFETY: the name has room for any name.
+    unsafe { vsp_name(row, name.as_mut_ptr()) }
 }
 
 /// The row, or [`NO_ROW`].

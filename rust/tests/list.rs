@@ -1,10 +1,11 @@
-//! The C example: compiled, run, and its output compared with what the reference says.
+//! The C example: compiled, run, and its output compared with what the reference says, and with
+//! listings of samples by hand.
 
 mod common;
 
 use common::compile;
 use inputs::{Program, Rng, Shape, parcel, refused_word, with_word};
-use reference::{Parcel, Verdict, check, read};
+use reference::{Parcel, Verdict, check, read, text};
 use std::path::{Path, PathBuf};
 use std::process::{Command, Output};
 
@@ -27,24 +28,25 @@ fn list_to(redirection: &str, program: &Path, bytes: &[u8]) -> Output {
 
 /// The listing by the reference.
 fn expected(bytes: &[u8]) -> String {
-    let mut text = String::new();
+    let mut listing = String::new();
     if let Ok(opened) = Parcel::open(bytes) {
         for (index, word) in opened.words().enumerate() {
-            text += &match read(&word.to_le_bytes()) {
-                Ok(instruction) => format!("{index:04} {word:016X} row {}\n", instruction.row),
+            listing += &match read(&word.to_le_bytes()) {
+                Ok(instruction) => format!("{index:04} {word:016X} {}\n", text(&instruction)),
                 Err(refusal) => {
                     format!("{index:04} {word:016X} refused {} place {}\n", refusal.number(), refusal.place())
                 }
             };
         }
     }
-    text + &match check(bytes) {
-        Verdict::Accepted => "ACCEPTED\n".to_string(),
-        Verdict::Refused { refusal, index, register } => {
-            let (number, place) = (refusal.number(), refusal.place());
-            format!("REFUSED {number} place {place} index {index} register {register}\n")
+    listing
+        + &match check(bytes) {
+            Verdict::Accepted => "ACCEPTED\n".to_string(),
+            Verdict::Refused { refusal, index, register } => {
+                let (number, place) = (refusal.number(), refusal.place());
+                format!("REFUSED {number} place {place} index {index} register {register}\n")
+            }
         }
-    }
 }
 
 #[test]
@@ -70,6 +72,37 @@ fn lists_parcels() {
     assert_eq!((missing.status.code(), missing.stdout.len()), (Some(2), 0));
     let nameless = Command::new(&program).output().unwrap();
     assert_eq!((nameless.status.code(), nameless.stdout.len()), (Some(2), 0));
+}
+
+/// The sample's listing, worked out from its source.
+fn lists_sample(program: &Path, name: &str, listing: &str, status: i32) {
+    let sample = Path::new(env!("CARGO_MANIFEST_DIR")).join("../samples").join(name);
+    let output = Command::new(program).arg(sample).output().unwrap();
+    assert_eq!(String::from_utf8_lossy(&output.stdout), listing, "{name}");
+    assert_eq!((output.status.code(), output.stderr.len()), (Some(status), 0), "{name}");
+}
+
+#[test]
+fn lists_samples() {
+    let program = compile("list.c", "list-samples");
+    let listing = "0000 0091C100000000C0 MOV.i32 r1, 0x0\n\
+                   0001 00A4C10000008001 FADD.f32 r1, r1, u0\n\
+                   0002 00A4C00000008100 FADD.f32 r0, r0, u1\n\
+                   0003 001F0007FFFFFD00 BRANCHZ r0, offset:-3\n\
+                   0004 7891C20000000041 MOV.i32.end r2, ^r1\n\
+                   ACCEPTED\n";
+    lists_sample(&program, "loop.vsp", listing, 0);
+    let listing = "0000 0091C000000000E4 MOV.i32 r0, warp_id.w0\n\
+                   0001 7891C100000000E5 MOV.i32.end r1, warp_id.w1\n\
+                   ACCEPTED\n";
+    lists_sample(&program, "special.vsp", listing, 0);
+    let listing = "0000 00A4C20000008040 FADD.f32 r2, ^r0, u0\n\
+                   0001 00A4C30000008141 FADD.f32 r3, ^r1, u1\n\
+                   0002 009CC40000000182 refused 3 place 0\n\
+                   0003 00A4C20000000342 FADD.f32 r2, ^r2, r3\n\
+                   0004 7891C00000000042 MOV.i32.end r0, ^r2\n\
+                   REFUSED 3 place 0 index 2 register 64\n";
+    lists_sample(&program, "stray.vsp", listing, 1);
 }
 
 /// A standard output that is full or closed: status 2 and a sentence, whatever the verdict. The

@@ -3,3 +3,4 @@ pub mod CodeLaws
 pub mod FormLaws
 pub mod AnswerLaws
 pub mod PromiseLaws
+pub mod TextLaws

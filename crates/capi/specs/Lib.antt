@@ -1,3 +1,4 @@
 pub mod Codes
 pub mod Form
+pub mod Texts
 pub mod Promises

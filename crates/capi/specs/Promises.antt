@@ -4,9 +4,11 @@ use mathlib.Core.Path.{_≡_}
 use mathlib.Core.List.{List}
 use mathlib.Core.Logic.{_↔_}
 use mathlib.Core.Option.{none, some}
-use Prim.Native.Nat.{ℕ, _%_, _^_, _<_}
+use Prim.Native.Nat.{ℕ, _%_, _^_, _<_, _≤_}
 use lib.ListN.{length, getD}
 use Rattle.bits.specs.Outcomes.{Outcome, gives, passes}
+use Rattle.rows.specs.Rows.{row-count}
+use Rattle.rows.specs.Names.{name-of}
 use Rattle.record.specs.declared.instruction.Instruction.{Instruction}
 use Rattle.record.specs.declared.answer.Refusal.{Refusal}
 use Rattle.lookup.specs.Opcodes.{row-with}
@@ -19,6 +21,7 @@ use Rattle.diff.specs.declared.line.Line.{Line}
 use Rattle.diff.specs.Answers.{line-outcome, list-outcome}
 use Rattle.capi.specs.Codes.{outcome-code, verdict-code, infer-code, row-code, line-code, list-code}
 use Rattle.capi.specs.Form.{form-of, write-form, word-after}
+use Rattle.capi.specs.Texts.{form-text}
 
 -- "Gives 0 .., or number + 2^8 place": the code is 0 exactly where something is given, so that no refusal looks like success
 abbrev pub ZeroTells : {A : Type 0} → Outcome Refusal A → Type 0
@@ -66,3 +69,11 @@ WrittenThenRead =
 abbrev pub FreshThenWritten : Type 0
 FreshThenWritten =
     (row : ℕ) (i : Instruction) → fresh row ≡ gives i → (buffer : List ℕ) → length buffer ≡ 8 → write-form (form-of i) buffer ≡ passes
+
+-- vsp_text: "the length of the text without the 0, which is never 0"
+abbrev pub TextNeverEmpty : Type 0
+TextNeverEmpty = (f : List ℕ) → 0 < length (form-text f)
+
+-- vsp_name: "or gives 0 where the row is over 76", and only there
+abbrev pub NoNameMeansNone : Type 0
+NoNameMeansNone = (row : ℕ) → (length (name-of row) ≡ 0) ↔ (row-count ≤ row)

@@ -1,6 +1,8 @@
 // The exported functions for C and Rust: numbers, byte slices and fixed arrays only.
 ghost use mathlib.Core.Path.{_≡_};
 ghost use Prim.Native.Nat.{_<_};
+ghost use lib.ListN.{length};
+ghost use Rattle.rows.specs.Names.{name-of};
 ghost use Rattle.lookup.specs.Opcodes.{row-with};
 ghost use Rattle.reader.specs.Reader.{read};
 ghost use Rattle.record.specs.Defaults.{fresh};
@@ -11,6 +13,7 @@ ghost use Rattle.infer.specs.Asked.{AsAsked};
 ghost use Rattle.diff.specs.Answers.{line-outcome, list-outcome, list-buffer};
 ghost use Rattle.capi.specs.Codes.{code, packed, outcome-code, verdict-code, infer-code, row-code, unread-code, line-code, line-after, list-code};
 ghost use Rattle.capi.specs.Form.{form-after, write-form, word-after};
+ghost use Rattle.capi.specs.Texts.{text-after, form-text, name-after};
 use crate::form::form_of;
 use crate::form::instruction_of_form;
 use crate::form::padded;
@@ -25,6 +28,7 @@ use diff::diff_line;
 use diff::diff_lines;
 use diff::numbers::MOST_NUMBERS;
 use diff::numbers::line_numbers;
+use disasm::put_instruction;
 use infer::answer::Inference;
 use infer::infer;
 use lookup::opcodes::RowFound;
@@ -33,12 +37,18 @@ use reader::answer::Reading;
 use record::answer::Fresh;
 use record::answer::Refusal;
 use record::instruction::Instruction;
+use text::name::put_name;
 use verifier::verdict::Finding;
 use verifier::verdict::Verdict;
 use verifier::verify;
 use writer::answer::Written;
 
 pub mod form;
+
+// Room for any text and any name, with the 0 after it: VSP_TEXT and VSP_NAME of the header.
+const TEXT: usize = 534;
+
+const NAME: usize = 19;
 
 // A refusal as one number: number + 2^8 place.
 fn refusal_code(f: Refusal) -> u32
@@ -203,4 +213,32 @@ pub extern "C" fn vsp_row_of(opcode: u64, k: u64) -> u32
         RowFound::Row(row) => row as u32,
         RowFound::None => 255,
     }
+}
+
+// Puts the text of a form and a 0 after it at the front of a buffer for any text: the length of the text.
+#[no_mangle]
+pub extern "C" fn vsp_text(form: &[u8; 32], text: &mut [u8; TEXT]) -> usize
+    ensures answer { λ r. ⌜ r ≡ length (form-text (now (form .entry))) ⌝ }
+    ensures kept { λ r. ⌜ now (text .exit) ≡ text-after (form-text (now (form .entry))) (now (text .entry)) ⌝ }
+{
+    let f = *form;
+    let n = put_instruction(instruction_of_form(f), text);
+    text[n] = 0;
+    n
+}
+
+// Puts the name of a row and a 0 after it at the front of a buffer for any name: the length of the name, or 0 where there is no such row,
+// and then the buffer keeps its bytes.
+#[no_mangle]
+pub extern "C" fn vsp_name(row: usize, name: &mut [u8; NAME]) -> usize
+    ensures answer { λ r. ⌜ r ≡ length (name-of row) ⌝ }
+    ensures kept { λ r. ⌜ now (name .exit) ≡ name-after row (now (name .entry)) ⌝ }
+{
+    if Instruction::ROWS <= row {
+        return 0;
+    }
+    let names = rows::names::all();
+    let n = put_name(&names, row, name);
+    name[n] = 0;
+    n
 }

@@ -91,6 +91,12 @@ use Rattle.diff.proofs.BitLaws as bit-laws
 use Rattle.diff.proofs.NumberLaws as number-laws
 use Rattle.diff.proofs.LazyComparisons as lazy-comparisons
 use Rattle.diff.proofs.RefusalLaws as diff-refusals
+use Rattle.leftout.specs.LeftOut.{Apart}
+use Rattle.leftout.proofs.StandsApart as stands-apart
+use Rattle.disasm.proofs.«write» as text-call
+use Rattle.show.specs.Show.{shown}
+use Rattle.show.proofs.«write» as show-call
+use Rattle.show.proofs.FrontLaws as show-fronts
 use Rattle.listing.specs.Listing.{listing}
 use Rattle.listing.specs.Asked.{ListedAsAsked}
 use Rattle.listing.specs.Cut.{read-length, FromTheFront}
@@ -100,7 +106,7 @@ use Rattle.difftext.proofs.write_line as write-line-call
 use Rattle.difftext.proofs.ShownLaws as shown-laws
 use Rattle.listing.proofs.AskedLaws as asked
 use Rattle.listing.proofs.CutLaws as cut
-use Rattle.capi.specs.Promises.{ZeroMeansDone, FewerMeansNone, NoRowMeansNone, ReadThenWritten, WrittenThenRead, FreshThenWritten}
+use Rattle.capi.specs.Promises.{ZeroMeansDone, FewerMeansNone, NoRowMeansNone, ReadThenWritten, WrittenThenRead, FreshThenWritten, TextNeverEmpty, NoNameMeansNone}
 use Rattle.capi.proofs.vsp_read as vsp-read-call
 use Rattle.capi.proofs.vsp_write as vsp-write-call
 use Rattle.capi.proofs.vsp_fresh as vsp-fresh-call
@@ -109,7 +115,10 @@ use Rattle.capi.proofs.vsp_check as vsp-check-call
 use Rattle.capi.proofs.vsp_infer as vsp-infer-call
 use Rattle.capi.proofs.vsp_diff_line as vsp-diff-line-call
 use Rattle.capi.proofs.vsp_diff_lines as vsp-diff-lines-call
+use Rattle.capi.proofs.vsp_text as vsp-text-call
+use Rattle.capi.proofs.vsp_name as vsp-name-call
 use Rattle.capi.proofs.PromiseLaws as promises
+use Rattle.capi.proofs.TextLaws as text-promises
 use Rattle.claims.proofs.FrontLaws as front-laws
 
 -- ---- Demand 1: every call ends, with the answer that its contract names, and a refusal writes nothing. A contract's `ensures` equates the
@@ -201,6 +210,14 @@ module _ {M : Type 1} where
   pub writes-line : write-line-call.Statement.statement M
   writes-line = write-line-call.Met.met
 
+  -- `disasm::write`: the buffer then begins with `instruction-text` of the instruction
+  pub tells-text : text-call.Statement.statement M
+  tells-text = text-call.Met.met
+
+  -- `show::write`: the buffer then begins with `shown` of the bytes
+  pub shows : show-call.Statement.statement M
+  shows = show-call.Met.met
+
   -- the functions for C: the answers are the codes of the same answers
   pub c-reads : vsp-read-call.Statement.statement M
   c-reads = vsp-read-call.Met.met
@@ -225,6 +242,12 @@ module _ {M : Type 1} where
 
   pub c-compares-whole : vsp-diff-lines-call.Statement.statement M
   c-compares-whole = vsp-diff-lines-call.Met.met
+
+  pub c-tells-text : vsp-text-call.Statement.statement M
+  c-tells-text = vsp-text-call.Met.met
+
+  pub c-names : vsp-name-call.Statement.statement M
+  c-names = vsp-name-call.Met.met
 
 -- the numbers of the refusals are those of the rules: 1 to 7 of reading, 2 and 4 to 9 of writing, 2 of making, 10 to 13 of opening, 12 of
 -- packing, 14 of asking for a word, of the check 2 to 7, 10 to 13 and 20 to 23, of the maker 2 to 7, 12 and 24, and of a
@@ -436,7 +459,15 @@ listing-from-the-front = cut.listing-from-the-front
 pub verdict-from-the-front : FromTheFront verdict-of
 verdict-from-the-front = cut.verdict-from-the-front
 
--- ---- The C header: 0 means done, 255 no row or no line, and forms and words undo one another
+-- ---- What is shown of a parcel to a person: what is read of a long input is enough
+pub shown-from-the-front : FromTheFront shown
+shown-from-the-front = show-fronts.shown-from-the-front
+
+-- what is told to be left out by the scope is no row's, and has one name
+pub left-out-apart : Apart
+left-out-apart = stands-apart.stands-apart
+
+-- ---- The C header: 0 means done, 255 no row or no line, forms and words undo one another, and no text is empty
 pub zero-means-done : ZeroMeansDone
 zero-means-done = promises.zero-means-done
 
@@ -454,3 +485,9 @@ written-then-read = promises.written-then-read
 
 pub fresh-then-written : FreshThenWritten
 fresh-then-written = promises.fresh-then-written
+
+pub text-never-empty : TextNeverEmpty
+text-never-empty = text-promises.text-never-empty
+
+pub no-name-means-none : NoNameMeansNone
+no-name-means-none = text-promises.no-name-means-none

@@ -96,7 +96,7 @@ module _ (s : List ℕ) (big : read-length ≤ length s) where
   long-listing : listing Front ≡ listing s
   long-listing = unopened-listing Front (same-front ∙ refused .1) ∙ sym (unopened-listing s (refused .1))
 
-either-way : {A : Type 0} (answer : List ℕ → A) → ((s : List ℕ) → read-length ≤ length s → answer (take read-length s) ≡ answer s) → FromTheFront answer
+pub either-way : {A : Type 0} (answer : List ℕ → A) → ((s : List ℕ) → read-length ≤ length s → answer (take read-length s) ≡ answer s) → FromTheFront answer
 either-way answer long s = go (ltb (length s) read-length) refl
   where
     go : (t : Bool) → ltb (length s) read-length ≡ t → answer (take read-length s) ≡ answer s

@@ -40,14 +40,14 @@ fn counts(rows: u8) -> u64
 }
 
 // How many sources a row has.
-fn source_count(row: u8) -> u64
+pub fn source_count(row: u8) -> u64
     ensures { λ r. ⌜ (r ≡ row-of row .sources) × (r ≤ 4) ⌝ }
 {
     bits_at(counts(row / 16), wide(row % 16) * 4, 4)
 }
 
 // Whether a row has a destination.
-fn has_destination(row: u8) -> bool
+pub fn has_destination(row: u8) -> bool
     ensures { λ r. ⌜ r ≡ row-of row .destination ⌝ }
 {
     3 <= row && (row as usize) < Instruction::ROWS

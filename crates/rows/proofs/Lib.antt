@@ -3,6 +3,7 @@ pub mod PlaceLaws
 pub mod RowLaws
 pub mod SetOfLaws
 pub mod SourceLaws
+pub mod FlatLaws
 pub mod NameLaws
 pub mod FindLaws
 pub mod MatchLaws

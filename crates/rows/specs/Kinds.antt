@@ -25,10 +25,14 @@ within (r ∷ rs) v = (leb (r .first) v && leb v (r .last)) || within rs v
 pub data Kind : Type 0 where
   -- no field: nothing but 0
   absent : Kind
-  -- one bit: negate or absolute of N, eq, conservative, ftz, flush_inf, saturate, the lane of F16_TO_F32
-  flag : Kind
-  -- two bits: round mode (R), result type (T), clamp, an 8-bit lane
-  two-bits : Kind
+  -- one bit each: what N has of a source, BRANCHZ's conservative and eq, FLUSH's ftz and flush_inf, IDP's saturate
+  negate absolute conservative eq ftz flush-inf saturate : Kind
+  -- R, 002's "Round mode", and T, 002's "Result type"
+  round-mode result-type : Kind
+  -- FADD's clamp, 002's "Clamp"
+  clamp : Kind
+  -- a lane: 002's "Lane (8-bit)", and "Lane (16-bit)", which has one bit
+  lane-8 lane-16 : Kind
   -- F, 002's "Widen"
   widen : Kind
   -- H, the first four of 002's "Swizzles (16-bit)"
@@ -37,13 +41,13 @@ pub data Kind : Type 0 where
   swizzle-32 swizzle-16 swizzle-8 : Kind
   -- 002's "Half-swizzles (8-bit)"
   half-swizzle : Kind
-  -- C, and I, the same for integers
+  -- C, 002's "Condition", and I, the same for integers
   condition integer-condition : Kind
-  -- X
+  -- X, 002's "Mux"
   mux : Kind
-  -- BRANCHZ's combine
+  -- BRANCHZ's combine, 002's "Combine"
   combine : Kind
-  -- FLUSH's NaN mode
+  -- FLUSH's NaN mode, 002's "NaN mode"
   nan-mode : Kind
   -- a source byte
   source : Kind
@@ -72,11 +76,28 @@ modifier n l d = record { width = n; legal = l; default = d }
 abbrev pub free : ℕ → About
 free n = record { width = n; legal = []; default = 0 }
 
+-- one bit, and two bits, of which every value is legal
+abbrev pub flag : About
+flag = modifier 1 (0 to 1 ∷ []) 0
+
+abbrev pub two-bits : About
+two-bits = modifier 2 (0 to 3 ∷ []) 0
+
 -- the defaults are 0, but 2 for H and W16, 1 for mux, and 3, the whole register, for the half mask (01, The 77 rows)
 abbrev pub about : Kind → About
 about absent = record { width = 0; legal = only 0 ∷ []; default = 0 }
-about flag = modifier 1 (0 to 1 ∷ []) 0
-about two-bits = modifier 2 (0 to 3 ∷ []) 0
+about negate = flag
+about absolute = flag
+about conservative = flag
+about eq = flag
+about ftz = flag
+about flush-inf = flag
+about saturate = flag
+about round-mode = two-bits
+about result-type = two-bits
+about clamp = two-bits
+about lane-8 = two-bits
+about lane-16 = flag
 -- F has three values
 about widen = modifier 2 (0 to 2 ∷ []) 0
 -- all four values of H are legal

@@ -1,5 +1,5 @@
 -- The names of the rows, as the lister writes them.
-use mathlib.Core.List.{List, [], _∷_, _++_, map}
+use mathlib.Core.List.{List, [], _∷_, _++_, map, flatten}
 use Prim.Native.Nat.{ℕ, suc, _-_}
 use Prim.Native.Char.{code}
 use Prim.Native.String.{String, [] as empty, _∷_ as letter}
@@ -28,9 +28,9 @@ filled s = s ++ replicate (name-width - length s) 32
 unfoldable pub name : ℕ → Name
 name k = record { bytes = filled (name-of k); len = length (name-of k) }
 
--- the names of all rows in their order, each in name-width bytes
-unfoldable pub names : List (List ℕ)
-names = map (λ (r : Row). filled (ascii (r .name))) rows
+-- the names of all rows in their order, each in name-width bytes, one after another
+unfoldable pub names : List ℕ
+names = flatten (map (λ (r : Row). filled (ascii (r .name))) rows)
 
 -- how many bytes stand before the first space
 unfoldable pub before-space : List ℕ → ℕ

@@ -6,7 +6,7 @@ use Prim.Native.String.{String}
 use lib.Dec.{leb, eqb}
 use lib.ListN.{getD}
 use Rattle.bits.specs.Fields.{choose}
-use Rattle.rows.specs.Kinds.{Kind, _to_, within, flag, two-bits, widen, swizzle-half, swizzle-32, swizzle-16, swizzle-8, half-swizzle, condition, integer-condition, mux, combine, nan-mode}
+use Rattle.rows.specs.Kinds.{Kind, _to_, within, negate, absolute, conservative, eq, ftz, flush-inf, saturate, round-mode, result-type, clamp, lane-8, lane-16, widen, swizzle-half, swizzle-32, swizzle-16, swizzle-8, half-swizzle, condition, integer-condition, mux, combine, nan-mode}
 
 -- a modifier: its lowest bit, which names it, and its kind
 pub record Modifier : Type 0 where
@@ -89,7 +89,7 @@ three name opcode second ms = row name opcode second 3 ms
 
 -- the fields that belong to source k (01, The frame). N: a bit for negate and, above it, one for absolute
 abbrev pub N : ℕ → List Modifier
-N k = md (38 - 2 * k) flag ∷ md (39 - 2 * k) flag ∷ []
+N k = md (38 - 2 * k) negate ∷ md (39 - 2 * k) absolute ∷ []
 
 -- F and H share a place of two bits
 abbrev pub F : ℕ → List Modifier
@@ -114,7 +114,7 @@ W8 k = md (low-of-swizzle k) swizzle-8 ∷ []
 
 -- the fields that belong to no source: R, the round mode; C, a condition; I, one of integers; T, the result type, here Ty; X, the mux
 abbrev pub R : List Modifier
-R = md 30 two-bits ∷ []
+R = md 30 round-mode ∷ []
 
 abbrev pub C : List Modifier
 C = md 32 condition ∷ []
@@ -123,7 +123,7 @@ abbrev pub I : List Modifier
 I = md 32 integer-condition ∷ []
 
 abbrev pub Ty : List Modifier
-Ty = md 30 two-bits ∷ []
+Ty = md 30 result-type ∷ []
 
 abbrev pub X : List Modifier
 X = md 32 mux ∷ []
@@ -141,7 +141,7 @@ branchz =
       destination = false;
       sources = 1;
       offset = true;
-      modifiers = md 37 combine ∷ md 36 flag ∷ md 35 flag ∷ [];
+      modifiers = md 37 combine ∷ md 36 eq ∷ md 35 conservative ∷ [];
     }
 
 abbrev pub without-destination : List Row
@@ -177,12 +177,12 @@ conversions =
     ∷ one "V2F16_TO_V2U16" 0x90 0x1E (R ++ N 0 ++ H 0)
     ∷ one "F16_TO_S32" 0x90 0xA (R ++ N 0 ++ H 0)
     ∷ one "F16_TO_U32" 0x90 0x1A (R ++ N 0 ++ H 0)
-    ∷ one "F16_TO_F32" 0x90 0xB (R ++ N 0 ++ (md 28 flag ∷ []))
+    ∷ one "F16_TO_F32" 0x90 0xB (R ++ N 0 ++ (md 28 lane-16 ∷ []))
     -- a lane of two bits; a half-swizzle
-    ∷ one "S8_TO_S32" 0x90 0x0 (md 28 two-bits ∷ [])
-    ∷ one "S8_TO_F32" 0x90 0x1 (md 28 two-bits ∷ [])
-    ∷ one "U8_TO_U32" 0x90 0x10 (md 28 two-bits ∷ [])
-    ∷ one "U8_TO_F32" 0x90 0x11 (md 28 two-bits ∷ [])
+    ∷ one "S8_TO_S32" 0x90 0x0 (md 28 lane-8 ∷ [])
+    ∷ one "S8_TO_F32" 0x90 0x1 (md 28 lane-8 ∷ [])
+    ∷ one "U8_TO_U32" 0x90 0x10 (md 28 lane-8 ∷ [])
+    ∷ one "U8_TO_F32" 0x90 0x11 (md 28 lane-8 ∷ [])
     ∷ one "V2S8_TO_V2S16" 0x90 0x2 (md 36 half-swizzle ∷ [])
     ∷ one "V2S8_TO_V2F16" 0x90 0x3 (md 36 half-swizzle ∷ [])
     ∷ one "V2U8_TO_V2U16" 0x90 0x12 (md 36 half-swizzle ∷ [])
@@ -209,7 +209,7 @@ moves =
 
 -- opcode 0x98, one source with N; from bit 8 up NaN mode, ftz and flush_inf
 abbrev pub flush-modifiers : List Modifier
-flush-modifiers = md 8 nan-mode ∷ md 10 flag ∷ md 11 flag ∷ []
+flush-modifiers = md 8 nan-mode ∷ md 10 ftz ∷ md 11 flush-inf ∷ []
 
 abbrev pub flushes : List Row
 flushes =
@@ -236,8 +236,8 @@ functions =
 -- two sources with N, and a clamp
 abbrev pub additions : List Row
 additions =
-    row "FADD.f32" 0xA4 0 2 (N 0 ++ N 1 ++ (md 32 two-bits ∷ []) ++ F 0 ++ F 1)
-    ∷ row "FADD.v2f16" 0xA5 0 2 (N 0 ++ N 1 ++ (md 32 two-bits ∷ []) ++ H 0 ++ H 1)
+    row "FADD.f32" 0xA4 0 2 (N 0 ++ N 1 ++ (md 32 clamp ∷ []) ++ F 0 ++ F 1)
+    ∷ row "FADD.v2f16" 0xA5 0 2 (N 0 ++ N 1 ++ (md 32 clamp ∷ []) ++ H 0 ++ H 1)
     ∷ []
 
 -- three sources, and X
@@ -255,8 +255,8 @@ cubes =
     ∷ three "CUBE_TSEL" 0xBC 1 (N 0 ++ N 1)
     ∷ plain "CUBEFACE1" 0xC0 3 (N 0 ++ N 1 ++ N 2)
     ∷ plain "CUBEFACE2_V9" 0xC1 3 (N 0 ++ N 1 ++ N 2)
-    ∷ three "IDP.v4s8" 0xC2 0 (md 30 flag ∷ [])
-    ∷ three "IDP.v4u8" 0xC2 1 (md 30 flag ∷ [])
+    ∷ three "IDP.v4s8" 0xC2 0 (md 30 saturate ∷ [])
+    ∷ three "IDP.v4u8" 0xC2 1 (md 30 saturate ∷ [])
     ∷ []
 
 -- three sources, of which the last has no fields; in each of the groups OR comes first, in all types, then AND

@@ -1,5 +1,6 @@
 // The names of instructions.
 use crate::put::put_byte;
+use crate::put::put_padded;
 use reader::answer::Reading;
 use record::instruction::Instruction;
 use rows::names::WIDTH;
@@ -12,7 +13,7 @@ ghost use Rattle.rows.specs.Names.{name-of, name-width, names as all-names};
 ghost use Rattle.text.specs.Text.{space, Put};
 ghost use Rattle.text.specs.Name.{name-in};
 
-pub type Names = [[u8; WIDTH]; Instruction::ROWS];
+pub type Names = [u8; WIDTH * Instruction::ROWS];
 
 // The name of a row; nothing where there is no such row.
 pub fn put_name(names: &Names, row: usize, out: &mut [u8]) -> usize
@@ -22,16 +23,10 @@ pub fn put_name(names: &Names, row: usize, out: &mut [u8]) -> usize
     if Instruction::ROWS <= row {
         return 0;
     }
-    let mut n = 0;
-    while n < WIDTH {
-        let b = names[row][n];
-        if b == b' ' {
-            return n;
-        }
-        out[n] = b;
-        n += 1;
-    }
-    n
+    let at = row * WIDTH;
+    let end = at + WIDTH;
+    let all = &names[..];
+    put_padded(&all[at..end], out)
 }
 
 // A space, and the name of the instruction that was read.

@@ -1,9 +1,9 @@
 //! Times the library against the reference on the same inputs, in turns, and prints a table.
 //!
 //! The buffers hold the inputs before the clock starts; the form that a word is read into is
-//! not cleared between words, nor the notes between programs, nor the lines between comparisons.
-//! The reference makes a new list for each comparison. An argument names the lister, which is
-//! timed as a whole process.
+//! not cleared between words, nor the notes between programs, nor the lines between comparisons,
+//! nor the text between instructions. The reference makes a new list for each comparison and a new
+//! text for each instruction. An argument names the lister, which is timed as a whole process.
 
 use inputs::{Program, Rng, Shape, encode, instruction, refused_word, with_word};
 use reference::{Instruction, ROW_COUNT, ROWS, Verdict};
@@ -47,6 +47,7 @@ fn main() -> ExitCode {
     }
     agreed &= time_read("read, legal words", &legal_words());
     agreed &= time_read("read, refused words", &refused_words());
+    agreed &= time_text("text, legal words", &legal_words());
     for (name, program) in [("straight", Program::nops(2048)), ("branchy", branchy())] {
         agreed &= time_infer(name, &program);
     }
@@ -161,6 +162,26 @@ fn time_read(name: &str, words: &[[u8; 8]]) -> bool {
     let rust = || {
         for word in words {
             let _ = black_box(reference::read(black_box(word)));
+        }
+    };
+    report(name, Pass::default(), agree, rattle, rust)
+}
+
+/// The text of each word's instruction on both sides; whether they agree.
+fn time_text(name: &str, words: &[[u8; 8]]) -> bool {
+    let forms: Vec<vsp::Form> = words.iter().flat_map(|word| vsp::read(word)).collect();
+    let instructions: Vec<Instruction> = words.iter().flat_map(|word| reference::read(word)).collect();
+    let agree = forms.iter().map(vsp::text).eq(instructions.iter().map(reference::text));
+    let forms: Vec<[u8; vsp::FORM]> = forms.iter().map(vsp::Form::to_bytes).collect();
+    let rattle = || {
+        let mut text = [0; vsp::TEXT];
+        for form in &forms {
+            black_box(vsp::raw::text(black_box(form), black_box(&mut text)));
+        }
+    };
+    let rust = || {
+        for instruction in &instructions {
+            black_box(reference::text(black_box(instruction)));
         }
     };
     report(name, Pass::default(), agree, rattle, rust)

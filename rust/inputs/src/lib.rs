@@ -4,12 +4,14 @@
 //! apart from the reference's check.
 
 mod instruction;
+mod mesa;
 mod parcel;
 mod program;
 mod rng;
 mod tiny;
 
 pub use instruction::{BRANCH, assigned, encode, instruction, misfit, pack, refused_word, source};
+pub use mesa::mesa;
 pub use parcel::{parcel, with_word};
 pub use program::{Program, Shape};
 pub use rng::Rng;

@@ -1,6 +1,6 @@
 //! Tables for the hot path, computed from the rows at compile time.
 
-use crate::rows::{MODIFIER_BITS, MODIFIERS, ROW_COUNT, Row, TABLE};
+use crate::rows::{MODIFIER_BITS, MODIFIERS, ROW_COUNT, ROWS, Row};
 
 /// Bits that every row owns: opcode, page and flow.
 const COMMON_BITS: u64 = 0x7FFF << 48;
@@ -83,7 +83,7 @@ const fn layouts() -> [Layout; ROW_COUNT] {
 }
 
 const fn layout_of(number: usize) -> Layout {
-    let row = &TABLE[number];
+    let row = &ROWS[number];
     let sources = ((1u64 << (8 * row.sources)) - 1) as u32;
     let mut assigned = COMMON_BITS | sources as u64;
     let mut fixed = (row.opcode as u64) << 48;
@@ -140,11 +140,11 @@ const fn index() -> ([Opcode; OPCODES], [u8; CELLS]) {
     let mut used = 1;
     let mut row = 0;
     while row < ROW_COUNT {
-        let (low, width, value) = match TABLE[row].secondary {
+        let (low, width, value) = match ROWS[row].secondary {
             Some(secondary) => (secondary.low, secondary.width, secondary.value),
             None => (0, 0, 0),
         };
-        let opcode = &mut opcodes[TABLE[row].opcode as usize];
+        let opcode = &mut opcodes[ROWS[row].opcode as usize];
         if opcode.start == 0 {
             *opcode = Opcode { low, mask: mask(width), start: used };
             used += 1 << width;

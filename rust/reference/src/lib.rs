@@ -1,25 +1,30 @@
 //! Paper 01 in plain Rust: the word reader and writer, the parcel, the check; and of paper 02
-//! the maker of notes, the rows of an opcode and the comparison of two parcels.
+//! the maker of notes, the rows of an opcode and the comparison of two parcels; and the text of an
+//! instruction, with paper 002's names in the syntax of Mesa's disassembler.
 //!
 //! Written from the papers alone, with tables of its own, so that it can stand beside the
 //! verified library in differential tests and as a baseline for its speed. Nothing here
-//! allocates but the maker and the comparison.
+//! allocates but the maker, the comparison and the text.
 //!
 //! What the paper calls a record is an [`Instruction`] here.
 
 mod check;
 mod codec;
 mod differences;
+mod enumerations;
 mod infer;
 mod layout;
 mod parcel;
 mod refusal;
 mod rows;
+mod text;
 
 pub use check::{Verdict, check};
 pub use codec::{Instruction, fresh, read, write};
 pub use differences::{Difference, Side, Unread, What, differences};
+pub use enumerations::Enumeration;
 pub use infer::{Fault, Narrowed, infer, narrow};
 pub use parcel::{HEADER, MAX_COUNT, Parcel};
 pub use refusal::Refusal;
-pub use rows::{MODIFIER_BITS, MODIFIERS, Modifier, ROW_COUNT, ROWS, Row, Secondary, row_of};
+pub use rows::{MODIFIER_BITS, MODIFIERS, Modifier, ROW_COUNT, ROWS, Role, Row, Secondary, row_of};
+pub use text::text;

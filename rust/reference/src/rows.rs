@@ -1,5 +1,7 @@
 //! The 77 rows, as the paper lists them.
 
+use crate::enumerations::{self as names, Enumeration};
+
 /// How many rows there are.
 pub const ROW_COUNT: usize = 77;
 
@@ -17,6 +19,22 @@ pub struct Modifier {
     pub legal: u16,
     /// The value in a fresh instruction.
     pub fresh: u8,
+    pub role: Role,
+    /// The names of its values.
+    pub values: Enumeration,
+}
+
+/// What a modifier changes.
+#[derive(Clone, Copy, Debug, PartialEq, Eq)]
+pub enum Role {
+    /// Nothing: the row doesn't use the place.
+    Absent,
+    /// The instruction.
+    Own,
+    /// The sign of a source.
+    Sign,
+    /// Which part of a source is taken, and how.
+    Swizzle,
 }
 
 /// One row: what a word must hold to be this instruction, and its fields.
@@ -40,37 +58,56 @@ pub struct Secondary {
     pub value: u8,
 }
 
-const fn modifier(width: u8, legal: u16, fresh: u8) -> Modifier {
-    Modifier { width, legal, fresh }
+const fn own(width: u8, legal: u16, fresh: u8, values: Enumeration) -> Modifier {
+    Modifier { width, legal, fresh, role: Role::Own, values }
 }
 
-const ABSENT: Modifier = modifier(0, 1, 0);
-const BIT: Modifier = modifier(1, 0x3, 0);
-const COMBINE: Modifier = modifier(3, 0x1F, 0);
-const NAN_MODE: Modifier = modifier(2, 0x7, 0);
-const CLAMP: Modifier = modifier(2, 0xF, 0);
-const MUX: Modifier = modifier(2, 0xF, 1);
-const ROUND: Modifier = modifier(2, 0xF, 0);
-const RESULT: Modifier = modifier(2, 0xF, 0);
-const CONDITION: Modifier = modifier(3, 0xFF, 0);
-const INTEGER_CONDITION: Modifier = modifier(3, 0x3F, 0);
-const LANE_2: Modifier = modifier(1, 0x3, 0);
-const LANE_4: Modifier = modifier(2, 0xF, 0);
-const HALF_SWIZZLE: Modifier = modifier(4, 0xFFFF, 0);
+const fn flag(values: Enumeration) -> Modifier {
+    own(1, 0x3, 0, values)
+}
+
+const fn sign(values: Enumeration) -> Modifier {
+    Modifier { role: Role::Sign, ..flag(values) }
+}
+
+const fn part(width: u8, legal: u16, fresh: u8, values: Enumeration) -> Modifier {
+    Modifier { role: Role::Swizzle, ..own(width, legal, fresh, values) }
+}
+
+const ABSENT: Modifier = Modifier { role: Role::Absent, ..own(0, 1, 0, names::NONE) };
+const NAN_MODE: Modifier = own(2, 0x7, 0, names::NAN_MODE);
+const FTZ: Modifier = flag(names::FTZ);
+const FLUSH_INF: Modifier = flag(names::FLUSH_INF);
+const CONSERVATIVE: Modifier = flag(names::CONSERVATIVE);
+const EQ: Modifier = flag(names::EQ);
+const CLAMP: Modifier = own(2, 0xF, 0, names::CLAMP);
+const MUX: Modifier = own(2, 0xF, 1, names::MUX);
+const ROUND: Modifier = own(2, 0xF, 0, names::ROUND_MODE);
+const RESULT: Modifier = own(2, 0xF, 0, names::RESULT_TYPE);
+const SATURATE: Modifier = flag(names::SATURATE);
+const CONDITION: Modifier = own(3, 0xFF, 0, names::CONDITION);
+const INTEGER_CONDITION: Modifier = own(3, 0x3F, 0, names::CONDITION);
+const NEGATE: Modifier = sign(names::NEG);
+const ABSOLUTE: Modifier = sign(names::ABS);
+const COMBINE: Modifier = part(3, 0x1F, 0, names::COMBINE);
+const LANE_2: Modifier = part(1, 0x3, 0, names::LANE_16);
+const LANE_4: Modifier = part(2, 0xF, 0, names::LANE_8);
+const HALF_SWIZZLE: Modifier = part(4, 0xFFFF, 0, names::HALF_SWIZZLES_8);
 /// F, the paper's "Widen".
-const WIDEN: Modifier = modifier(2, 0x7, 0);
+const WIDEN: Modifier = part(2, 0x7, 0, names::WIDEN);
 /// H, a swizzle of two halves.
-const HALVES: Modifier = modifier(2, 0xF, 2);
-const W32: Modifier = modifier(4, 0xFD, 0);
-const W16: Modifier = modifier(4, 0x3FFF, 2);
-const W8: Modifier = modifier(4, 0xFFF, 0);
+const HALVES: Modifier = part(2, 0xF, 2, names::HALVES_16);
+const W32: Modifier = part(4, 0xFD, 0, names::SWIZZLES_32);
+const W16: Modifier = part(4, 0x3FFF, 2, names::SWIZZLES_16);
+const W8: Modifier = part(4, 0xFFF, 0, names::SWIZZLES_8);
 
 /// A row with a destination, plain sources and nothing else.
 const fn row(name: &'static str, opcode: u16, sources: usize) -> Row {
     Row { name, opcode, secondary: None, sources, destination: true, offset: false, modifiers: [ABSENT; MODIFIERS] }
 }
 
-const fn slot(lowest_bit: u8) -> usize {
+/// The place of a lowest bit in [`MODIFIER_BITS`].
+pub(crate) const fn slot(lowest_bit: u8) -> usize {
     let mut k = 0;
     while MODIFIER_BITS[k] != lowest_bit {
         k += 1;
@@ -104,7 +141,7 @@ impl Row {
     const fn negate(mut self, sources: u8) -> Row {
         let mut k = 0;
         while k < sources {
-            self = self.with(38 - 2 * k, BIT).with(39 - 2 * k, BIT);
+            self = self.with(38 - 2 * k, NEGATE).with(39 - 2 * k, ABSOLUTE);
             k += 1;
         }
         self
@@ -146,7 +183,7 @@ const fn unary(name: &'static str, opcode: u16, secondary: u8) -> Row {
 }
 
 const fn flush(name: &'static str, secondary: u8) -> Row {
-    unary(name, 0x98, secondary).negate(1).with(8, NAN_MODE).with(10, BIT).with(11, BIT)
+    unary(name, 0x98, secondary).negate(1).with(8, NAN_MODE).with(10, FTZ).with(11, FLUSH_INF)
 }
 
 const fn fadd(name: &'static str, opcode: u16) -> Row {
@@ -173,13 +210,13 @@ const fn fcmp(name: &'static str, opcode: u16, secondary: u8, halves: Modifier) 
 const OR: u8 = 0;
 const AND: u8 = 1;
 
-/// The rows in the paper's order.
-pub static ROWS: [Row; ROW_COUNT] = TABLE;
+/// Stands for any row over 76 in a text: it has no fields.
+pub(crate) static UNKNOWN: Row = row("?", 0, 0).no_destination();
 
-/// The same as a constant, for the tables derived from it.
-pub(crate) const TABLE: [Row; ROW_COUNT] = [
+/// The rows in the paper's order.
+pub static ROWS: [Row; ROW_COUNT] = [
     row("NOP", 0x00, 0).no_destination(),
-    row("BRANCHZ", 0x1F, 1).no_destination().branch_offset().with(35, BIT).with(36, BIT).with(37, COMBINE),
+    row("BRANCHZ", 0x1F, 1).no_destination().branch_offset().with(35, CONSERVATIVE).with(36, EQ).with(37, COMBINE),
     row("DISCARD.f32", 0x20, 2).no_destination().negate(2).halves(2, WIDEN).with(32, CONDITION),
     row("CSEL.f32", 0x154, 4).with(32, CONDITION),
     row("CSEL.v2f16", 0x155, 4).with(32, CONDITION),
@@ -240,8 +277,8 @@ pub(crate) const TABLE: [Row; ROW_COUNT] = [
     row("CUBE_TSEL", 0xBC, 3).secondary(4, 1).negate(2),
     row("CUBEFACE1", 0xC0, 3).negate(3),
     row("CUBEFACE2_V9", 0xC1, 3).negate(3),
-    row("IDP.v4s8", 0xC2, 3).secondary(4, 0).with(30, BIT),
-    row("IDP.v4u8", 0xC2, 3).secondary(4, 1).with(30, BIT),
+    row("IDP.v4s8", 0xC2, 3).secondary(4, 0).with(30, SATURATE),
+    row("IDP.v4u8", 0xC2, 3).secondary(4, 1).with(30, SATURATE),
     icmp("ICMP_OR.u32", 0xF0, OR, W32),
     icmp("ICMP_OR.v2u16", 0xF1, OR, W16),
     icmp("ICMP_OR.v4u8", 0xF2, OR, W8),

@@ -2,10 +2,10 @@
 #![allow(dead_code)]
 
 use inputs::Rng;
-use reference::{Difference, Fault, Instruction, Refusal, Side, Unread, Verdict, What};
+use reference::{Difference, Fault, Instruction, ROWS, Refusal, Side, Unread, Verdict, What};
 use std::path::{Path, PathBuf};
 use std::process::Command;
-use vsp::{DIFF_LINES, FORM, Form, raw};
+use vsp::{DIFF_LINES, FORM, Form, NAME, TEXT, raw};
 
 /// Room on both sides of a lent buffer, to see writes that go astray.
 const MARGIN: usize = 16;
@@ -122,7 +122,7 @@ pub fn form(instruction: &Instruction) -> [u8; FORM] {
     form
 }
 
-/// The instruction of a form whose padding is 0.
+/// The instruction of a form. Padding is passed over.
 fn instruction(form: &[u8; FORM]) -> Instruction {
     Instruction {
         row: form[0],
@@ -228,6 +228,42 @@ pub fn compare_fresh(rng: &mut Rng, row: u64) -> u32 {
     let safe = vsp::fresh(row).map(|form| form.to_bytes());
     assert_eq!(safe, expected.map(|i| form(&i)).map_err(from_refusal), "the fresh instruction of row {row}");
     answer
+}
+
+/// Makes the text of a form with both; gives it back. Padding may have any value.
+pub fn compare_text(rng: &mut Rng, form: &[u8; FORM]) -> String {
+    let expected = reference::text(&instruction(form));
+    let (mut bytes, part) = memory(rng, TEXT);
+    let mut after = bytes.clone();
+    put_text(&mut after[part.clone()], &expected);
+    let answer = raw::text(form, (&mut bytes[part]).try_into().unwrap());
+    assert_eq!(answer, expected.len(), "the length of the text of {form:02X?}, {expected}");
+    assert_eq!(bytes, after, "the buffer after the text of {form:02X?}, {expected}");
+    let typed = Form::from_bytes(form);
+    assert_eq!(vsp::text(&typed), expected, "the text of {form:02X?}");
+    assert_eq!(format!("{typed}"), expected, "the text of {form:02X?}");
+    expected
+}
+
+/// Makes the name of a row with both; gives it back.
+pub fn compare_name(rng: &mut Rng, row: usize) -> Option<&'static str> {
+    let expected = ROWS.get(row).map(|row| row.name);
+    let (mut bytes, part) = memory(rng, NAME);
+    let mut after = bytes.clone();
+    if let Some(name) = expected {
+        put_text(&mut after[part.clone()], name);
+    }
+    let answer = raw::name(row, (&mut bytes[part]).try_into().unwrap());
+    assert_eq!(answer, expected.map_or(0, str::len), "the length of the name of row {row}");
+    assert_eq!(bytes, after, "the buffer after the name of row {row}");
+    assert_eq!(vsp::name(row).as_deref(), expected, "the name of row {row}");
+    expected
+}
+
+/// The text and a 0 byte at the front of a buffer.
+fn put_text(buffer: &mut [u8], text: &str) {
+    buffer[..text.len()].copy_from_slice(text.as_bytes());
+    buffer[text.len()] = 0;
 }
 
 /// Checks the parcel with both; gives back the code.

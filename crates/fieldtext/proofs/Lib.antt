@@ -1,0 +1,2 @@
+pub mod CodedLaws
+pub mod ModifierLaws

@@ -1,0 +1,2 @@
+pub mod Enumerations
+pub mod served

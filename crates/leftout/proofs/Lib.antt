@@ -1,0 +1,3 @@
+pub mod FillingLaws
+pub mod OmittedLaws
+pub mod StandsApart

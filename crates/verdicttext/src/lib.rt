@@ -1,0 +1,2 @@
+// A verdict in words, for a person.
+pub mod words;
