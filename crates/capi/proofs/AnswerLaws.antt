@@ -14,7 +14,7 @@ use Rattle.verifier.specs.declared.verdict.Finding.{Finding}
 use Rattle.infer.specs.Inference.{infer-outcome, infer-buffer}
 use Rattle.infer.specs.Asked.{AsAsked, Inferred}
 use Rattle.capi.specs.Codes.{code, outcome-code, infer-code}
-use Rattle.capi.specs.Form.{form-of, form-after, instruction-of-form, padded, write-form, word-after}
+use Rattle.form.specs.Form.{form-of, form-after, instruction-of-form, padded, write-form, word-after}
 
 module _ (f : List ℕ) {o : Outcome Refusal Instruction} where
   pub made : {i : Instruction} {r : List ℕ} → gives i ≡ o → r ≡ form-of i → (0 ≡ outcome-code o) × (r ≡ form-after o f)

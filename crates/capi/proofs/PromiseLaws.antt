@@ -45,10 +45,10 @@ use Rattle.diff.specs.Answers.{line-outcome, list-outcome}
 use Rattle.diff.proofs.RefusalLaws.{Early, line-early, list-early}
 use Rattle.infer.proofs.NumberedLaws.{FromTheMaker, infer-numbers}
 use Rattle.capi.specs.Codes.{verdict-code, infer-code, row-code, unread-code, line-code, list-code}
-use Rattle.capi.specs.Form.{half, form-of, pick, instruction-of-form, padded, write-form, word-after}
+use Rattle.form.specs.Form.{half, form-of, pick, instruction-of-form, padded, write-form, word-after}
 use Rattle.capi.specs.Promises.{ZeroTells, ZeroMeansDone, FewerMeansNone, NoRowMeansNone, ReadThenWritten, WrittenThenRead, FreshThenWritten}
-use Rattle.capi.proofs.OffsetLaws.{few}
-use Rattle.capi.proofs.FormLaws.{form-bytes, form-back}
+use Rattle.form.proofs.OffsetLaws.{few}
+use Rattle.form.proofs.FormLaws.{form-bytes, form-back}
 use Rattle.capi.proofs.AnswerLaws.{through, kept}
 
 -- 0 means success

@@ -16,7 +16,7 @@ use Rattle.rows.proofs.TableLaws.{in-table}
 use Rattle.rows.proofs.NameLaws.{no-name}
 use Rattle.text.specs.Text.{Put}
 use Rattle.disasm.specs.Assembly.{row-text, instruction-text}
-use Rattle.capi.specs.Form.{instruction-of-form}
+use Rattle.form.specs.Form.{instruction-of-form}
 use Rattle.capi.specs.Texts.{text-after, name-after}
 use Rattle.capi.specs.Promises.{TextNeverEmpty, NoNameMeansNone}
 

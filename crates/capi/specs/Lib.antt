@@ -1,4 +1,3 @@
 pub mod Codes
-pub mod Form
 pub mod Texts
 pub mod Promises

@@ -20,7 +20,7 @@ use Rattle.infer.specs.Inference.{infer-outcome}
 use Rattle.diff.specs.declared.line.Line.{Line}
 use Rattle.diff.specs.Answers.{line-outcome, list-outcome}
 use Rattle.capi.specs.Codes.{outcome-code, verdict-code, infer-code, row-code, line-code, list-code}
-use Rattle.capi.specs.Form.{form-of, write-form, word-after}
+use Rattle.form.specs.Form.{form-of, write-form, word-after}
 use Rattle.capi.specs.Texts.{form-text}
 
 -- "Gives 0 .., or number + 2^8 place": the code is 0 exactly where something is given, so that no refusal looks like success

@@ -7,7 +7,7 @@ use Rattle.bits.specs.Fields.{choose}
 use Rattle.rows.specs.Rows.{row-count}
 use Rattle.rows.specs.Names.{name-of}
 use Rattle.disasm.specs.Assembly.{instruction-text}
-use Rattle.capi.specs.Form.{instruction-of-form}
+use Rattle.form.specs.Form.{instruction-of-form}
 
 -- a buffer afterwards: the text and a 0 at its front, and otherwise what it held
 unfoldable pub text-after : List ℕ → List ℕ → List ℕ

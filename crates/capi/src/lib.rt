@@ -12,11 +12,8 @@ ghost use Rattle.infer.specs.Inference.{infer-outcome, infer-buffer};
 ghost use Rattle.infer.specs.Asked.{AsAsked};
 ghost use Rattle.diff.specs.Answers.{line-outcome, list-outcome, list-buffer};
 ghost use Rattle.capi.specs.Codes.{code, packed, outcome-code, verdict-code, infer-code, row-code, unread-code, line-code, line-after, list-code};
-ghost use Rattle.capi.specs.Form.{form-after, write-form, word-after};
+ghost use Rattle.form.specs.Form.{form-after, write-form, word-after};
 ghost use Rattle.capi.specs.Texts.{text-after, form-text, name-after};
-use crate::form::form_of;
-use crate::form::instruction_of_form;
-use crate::form::padded;
 use bits::bytes::wide;
 use codec::read_word;
 use codec::write_word;
@@ -25,10 +22,13 @@ use diff::answer::Listed;
 use diff::answer::Side;
 use diff::answer::Unread;
 use diff::diff_line;
-use diff::diff_lines;
 use diff::numbers::MOST_NUMBERS;
 use diff::numbers::line_numbers;
+use difflist::diff_lines;
 use disasm::put_instruction;
+use form::form_of;
+use form::instruction_of_form;
+use form::padded;
 use infer::answer::Inference;
 use infer::infer;
 use lookup::opcodes::RowFound;
@@ -43,8 +43,7 @@ use verifier::verdict::Verdict;
 use verifier::verify;
 use writer::answer::Written;
 
-pub mod form;
-
+pub
 // Room for any text and any name, with the 0 after it: VSP_TEXT and VSP_NAME of the header.
 const TEXT: usize = 534;
 

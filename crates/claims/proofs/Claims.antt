@@ -42,15 +42,16 @@ use Rattle.container.proofs.view.word_at as word-at-call
 use Rattle.container.proofs.view.view_of as view-call
 use Rattle.container.proofs.view.open_count as count-call
 use Rattle.container.proofs.WordLaws as word-laws
-use Rattle.container.proofs.pack.fit as fit-call
-use Rattle.container.proofs.pack.pack as pack-call
-use Rattle.container.proofs.PackLaws as pack-laws
+use Rattle.packing.proofs.fit as fit-call
+use Rattle.packing.proofs.pack as pack-call
+use Rattle.packing.proofs.PackLaws as pack-laws
 use Rattle.container.specs.Container.{count-of, entry-of, words-of, annotations-of, eight}
-use Rattle.container.specs.Packing.{word-count, Fitting, container-bytes, pack-outcome}
+use Rattle.packing.specs.Packing.{word-count, Fitting, container-bytes, pack-outcome}
 use Rattle.bits.specs.Bytes.{little}
 use Rattle.container.specs.Opening.{Rejection, unplaced, open-outcome, Opens}
 use Rattle.container.specs.Words.{word-outcome, open-count}
 use Rattle.container.proofs.NumberedLaws as container-numbers
+use Rattle.packing.proofs.NumberedLaws as packing-numbers
 use Rattle.verifier.specs.declared.verdict.Finding.{Finding}
 use Rattle.verifier.specs.Verdict.{Judgement, verdict-of, all-read}
 use Rattle.verifier.specs.Program.{Program, machine, WellFormed}
@@ -84,7 +85,7 @@ use Rattle.diff.specs.Numbers.{TellLines}
 use Rattle.diff.specs.Asked.{Comparison, Compares}
 use Rattle.diff.specs.Lazy.{NeverLists, ListsEveryField}
 use Rattle.diff.proofs.«diff_line» as diff-line-call
-use Rattle.diff.proofs.«diff_lines» as diff-lines-call
+use Rattle.difflist.proofs.«diff_lines» as diff-lines-call
 use Rattle.diff.proofs.«both_read» as both-read-call
 use Rattle.diff.proofs.AskedLaws as compared
 use Rattle.diff.proofs.BitLaws as bit-laws
@@ -170,7 +171,7 @@ module _ {M : Type 1} where
   pub fetches-with-any-n : word-in-call.Statement.statement M
   fetches-with-any-n = word-in-call.Met.met
 
-  -- `container::pack`: whether words and annotations of some lengths make a container; the container in the buffer, or its refusal
+  -- `packing`: whether words and annotations of some lengths make a container; the container in the buffer, or its refusal
   pub fits : fit-call.Statement.statement M
   fits = fit-call.Met.met
 
@@ -194,7 +195,7 @@ module _ {M : Type 1} where
   pub compares : diff-line-call.Statement.statement M
   compares = diff-line-call.Met.met
 
-  -- `diff::diff_lines`: the answer is `list-outcome`, and the buffer then begins with the whole list
+  -- `difflist::diff_lines`: the answer is `list-outcome`, and the buffer then begins with the whole list
   pub compares-whole : diff-lines-call.Statement.statement M
   compares-whole = diff-lines-call.Met.met
 
@@ -270,7 +271,7 @@ fetch-refusals = container-numbers.word-numbers
 
 pub pack-refusals : (entry : ℕ) (words annotations out : List ℕ) (r : Rejection) → pack-outcome entry words annotations out ≡ refuses r
     → r ≡ unplaced 12
-pack-refusals = container-numbers.pack-numbers
+pack-refusals = packing-numbers.pack-numbers
 
 -- a container that is packed opens with the parts that were packed, and one that opens is packed again from its parts
 pub packed-opens : (entry : ℕ) (words annotations : List ℕ) → entry < 2 ^ 64 → Fitting (length words) (length annotations)

@@ -1,5 +1,3 @@
 pub mod OpeningLaws
 pub mod WordLaws
-pub mod FillLaws
-pub mod PackLaws
 pub mod NumberedLaws

@@ -1,15 +1,14 @@
--- The numbers that refusals of opening, of asking for a word, and of packing have. Assumes nothing.
+-- The numbers that refusals of opening and of asking for a word have. Assumes nothing.
 use mathlib.Core.Path.{_≡_, refl}
 use mathlib.Core.Bool.{_&&_}
 use mathlib.Core.List.{List}
 use Prim.Native.Nat.{ℕ, _+_}
 use lib.Dec.{leb, ltb, eqb, lit≤}
 use lib.ListN.{length}
-use Rattle.bits.proofs.OutcomeLaws.{Refusals, of-gives, of-require, on, Between}
+use Rattle.bits.proofs.OutcomeLaws.{Refusals, of-gives, on, Between}
 use Rattle.container.specs.Container.{number, word-length, word-start, header-length, most-instructions, version, marked, version-of, zero-of, count-of, container-length}
 use Rattle.container.specs.Opening.{Rejection, unplaced, header-of, open-outcome}
 use Rattle.container.specs.Words.{word-outcome}
-use Rattle.container.specs.Packing.{word-count, fitting, pack-outcome}
 
 -- a refusal with place 0 and one of the numbers of opening
 abbrev pub Unopened : Rejection → Type 0
@@ -35,10 +34,3 @@ word-numbers s n i =
     on (λ (r : Rejection). r ≡ unplaced 14) (ltb i n) (unplaced 14) refl
     (on (λ (r : Rejection). r ≡ unplaced 14) (leb (word-start i + word-length) (length s)) (unplaced 14) refl
     (of-gives (λ (r : Rejection). r ≡ unplaced 14) (number s (word-start i) word-length)))
-
--- packing refuses with 12 alone, at place 0
-pub pack-numbers : (entry : ℕ) (words annotations out : List ℕ) → Refusals (λ (r : Rejection). r ≡ unplaced 12) (pack-outcome entry words annotations out)
-unfolding pack-outcome
-pack-numbers entry words annotations out =
-    on (λ (r : Rejection). r ≡ unplaced 12) (fitting (length words) (length annotations)) (unplaced 12) refl
-    (of-require (λ (r : Rejection). r ≡ unplaced 12) (eqb (length out) (container-length (word-count (length words)))) (unplaced 12) refl)

@@ -1,4 +1,3 @@
 pub mod Container
 pub mod Opening
 pub mod Words
-pub mod Packing

@@ -1,6 +1,5 @@
-// The container (the paper's parcel): opening, the annotations as a part of the lent bytes, the word at an index, and packing.
+// The container (the paper's parcel): opening, the annotations as a part of the lent bytes, and the word at an index.
 pub mod header;
 pub mod layout;
-pub mod pack;
 pub mod parts;
 pub mod view;

@@ -15,7 +15,7 @@ use Rattle.bits.specs.Bytes.{little, little-bytes}
 use Rattle.bits.proofs.ByteLaws.{bytes-of-little, part-bytes}
 use Rattle.container.specs.Container.{header-length, word-length, annotation-length, annotations-start, count-of, entry-of, words-of, annotations-of, eight}
 use Rattle.container.proofs.OpeningLaws.{length-part, length-words, length-annotations}
-use Rattle.container.proofs.PackLaws.{unpacked}
+use Rattle.packing.proofs.PackLaws.{unpacked}
 use Rattle.verifier.specs.Program.{instruction-in, instruction-at, annotation-at, WellFormed}
 use Rattle.diff.specs.declared.line.Line.{Line}
 use Rattle.diff.specs.Records.{contents}

@@ -74,7 +74,7 @@ fn tell(xs: &Contents, ys: &Contents, index: usize, f: usize, next: usize) -> St
 }
 
 // Whether the words at index i differ; then what the instructions hold is taken.
-pub(crate) fn load<'a>(
+pub fn load<'a>(
     first: &'a [u8],
     second: &'a [u8],
     i: usize,

@@ -1,6 +1,5 @@
 // The comparison of two containers (the paper's compare): what differs between them, line by line.
 use crate::answer::Compared;
-use crate::answer::Listed;
 use crate::answer::Ready;
 use crate::answer::Side;
 use crate::answer::Unread;
@@ -9,8 +8,6 @@ use crate::cursor::Contents;
 use crate::cursor::Step;
 use crate::cursor::advance;
 use crate::line::FIELDS;
-use crate::list::put_lines;
-use crate::numbers::MOST_NUMBERS;
 use container::view::open_count;
 use verifier::read_all;
 use verifier::verdict::Verdict;
@@ -18,17 +15,16 @@ ghost use mathlib.Core.Path.{_≡_};
 ghost use Rattle.bits.specs.Lists.{kth};
 ghost use Rattle.bits.specs.Outcomes.{gives};
 ghost use Rattle.diff.specs.Differences.{differences};
-ghost use Rattle.diff.specs.Answers.{compared-outcome, listed-outcome, ready-outcome, both-read, line-outcome, list-outcome, list-buffer};
+ghost use Rattle.diff.specs.Answers.{compared-outcome, ready-outcome, both-read, line-outcome};
 ghost use Rattle.diff.specs.served.Cursor.{Counted};
 
 pub mod answer;
 mod contents;
 pub mod cursor;
 pub mod line;
-mod list;
 pub mod numbers;
 mod parts;
-mod single;
+pub mod single;
 
 // Whether both containers open and read: the first is asked first.
 pub fn both_read<'a>(first: &'a [u8], second: &'a [u8]) -> Ready
@@ -105,28 +101,5 @@ pub fn diff_line<'a>(first: &'a [u8], second: &'a [u8], k: usize) -> Compared
             )
         }
         Ready::Unread(u) => Compared::Unread(u),
-    }
-}
-
-// The whole list, three numbers for each line, at the front of a buffer that has room for any.
-pub fn diff_lines<'a>(first: &'a [u8], second: &'a [u8], out: &mut [u64; MOST_NUMBERS]) -> Listed
-    ensures answer { λ r. ⌜ listed-outcome r ≡ list-outcome (now (first .entry)) (now (second .entry)) ⌝ }
-    ensures buffer { λ _. ⌜ now (out .exit) ≡ list-buffer (now (first .entry)) (now (second .entry)) (now (out .entry)) ⌝ }
-{
-    match both_read(first, second) {
-        Ready::Both => {
-            let mut xs = [0; FIELDS];
-            let mut ys = [0; FIELDS];
-            Listed::Lines(put_lines(
-                first,
-                open_count(first),
-                second,
-                open_count(second),
-                &mut xs,
-                &mut ys,
-                out,
-            ))
-        }
-        Ready::Unread(u) => Listed::Unread(u),
     }
 }

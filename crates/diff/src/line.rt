@@ -35,7 +35,7 @@ pub const FIELDS: usize = 22;
 const LOWS: [u8; 14] = [8, 10, 11, 24, 26, 28, 30, 32, 34, 35, 36, 37, 38, 39];
 
 // Field f, in the order of the list.
-pub(crate) fn field(f: usize) -> What
+pub fn field(f: usize) -> What
     requires { ⌜ f < field-count ⌝ }
     ensures { λ r. ⌜ r ≡ getD fields f row ⌝ }
 {

@@ -46,7 +46,7 @@ pub fn line_numbers(line: Line) -> [u64; 3]
 }
 
 // Puts them after k lines of a buffer, and tells how many lines there are then.
-pub(crate) fn put_line(line: Line, k: usize, out: &mut [u64]) -> usize
+pub fn put_line(line: Line, k: usize, out: &mut [u64]) -> usize
     requires { ⌜ (line .index < most-instructions) × (3 * (k + 1) ≤ length (now out)) ⌝ }
     ensures { λ r. ⌜ Placed (line ∷ []) k (now (out .entry)) (now (out .exit)) r ⌝ }
 {

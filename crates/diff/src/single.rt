@@ -44,13 +44,7 @@ fn tell(what: What, index: usize, first: u64, second: u64) -> Single
 }
 
 // Part p, after those of the instructions that both have.
-pub(crate) fn line_of_part<'a>(
-    first: &'a [u8],
-    n: usize,
-    second: &'a [u8],
-    m: usize,
-    p: usize,
-) -> Single
+pub fn line_of_part<'a>(first: &'a [u8], n: usize, second: &'a [u8], m: usize, p: usize) -> Single
     requires { ⌜ Counted (now first) n (now second) m × (min n m ≤ p) × (p < part-count (now first) (now second)) ⌝ }
     ensures { λ r. ⌜ single-told r ≡ single-lines (now (first .entry)) (now (second .entry)) p ⌝ }
 {
@@ -69,13 +63,13 @@ pub(crate) fn line_of_part<'a>(
 }
 
 // The smaller of two numbers, and the larger.
-pub(crate) fn smaller(n: usize, m: usize) -> usize
+pub fn smaller(n: usize, m: usize) -> usize
     ensures { λ r. ⌜ r ≡ min n m ⌝ }
 {
     if n < m { n } else { m }
 }
 
-pub(crate) fn larger(n: usize, m: usize) -> usize
+pub fn larger(n: usize, m: usize) -> usize
     ensures { λ r. ⌜ r ≡ max n m ⌝ }
 {
     if n < m { m } else { n }

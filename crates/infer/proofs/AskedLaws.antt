@@ -19,8 +19,8 @@ use Rattle.record.specs.declared.instruction.Instruction.{Instruction}
 use Rattle.reader.specs.Reader.{read}
 use Rattle.container.specs.Container.{eight}
 use Rattle.container.specs.Opening.{Opens}
-use Rattle.container.specs.Packing.{word-count, fitting, Fitting, container-bytes}
-use Rattle.container.proofs.PackLaws.{fitting-of, fitting-to, packed-fits}
+use Rattle.packing.specs.Packing.{word-count, fitting, Fitting, container-bytes}
+use Rattle.packing.proofs.PackLaws.{fitting-of, fitting-to, packed-fits}
 use Rattle.walks.specs.Walks.{Machine, AllReached, Exact}
 use Rattle.walks.specs.Sweeps.{Reports}
 use Rattle.walks.specs.served.Inference.{Proposal}
@@ -33,7 +33,7 @@ use Rattle.verifier.specs.Verdict.{Judgement, finding, no-register, first, judg
 use Rattle.verifier.proofs.VerdictLaws.{both, neither, first-of, first-to, first-stop}
 use Rattle.verifier.proofs.ProgramLaws.{passes-of, passes-to, eight-lt}
 use Rattle.verifier.proofs.Demand3.{accepted, word-of}
-use Rattle.verifier.proofs.PackedLaws.{packed-program, packed-verdict}
+use Rattle.infer.proofs.PackedLaws.{packed-program, packed-verdict}
 use Rattle.infer.specs.Sweeps.{all-registers, among, first-note, narrowed-if, swept, note, sweeps, set-bytes, proposal}
 use Rattle.infer.specs.Inference.{unannotated, proposed, none-acceptable, pass-on, infer-outcome, infer-buffer}
 use Rattle.infer.specs.Asked.{Acceptable, ReadBefore, AsAsked, Inferred, Asked, Maker}

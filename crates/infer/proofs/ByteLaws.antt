@@ -13,7 +13,7 @@ use lib.Seq.{drop-at, drop-append-le, take-append-le, take-all}
 use Rattle.bits.specs.Bytes.{little, little-bytes}
 use Rattle.bits.proofs.ByteLaws.{length-bytes, little-of-bytes, append-bytes, number-bytes}
 use Rattle.container.specs.Container.{eight}
-use Rattle.container.proofs.FillLaws.{Begins, stored}
+use Rattle.packing.proofs.FillLaws.{Begins, stored}
 use Rattle.verifier.specs.Program.{annotation-at}
 use Rattle.infer.specs.Sweeps.{set-bytes}
 

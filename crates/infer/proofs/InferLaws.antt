@@ -8,12 +8,12 @@ use native.Mathlib.Omega.{arith}
 use lib.ListN.{length, take, replicate, length-take, length-replicate}
 use Rattle.bits.specs.Outcomes.{Outcome, gives, refuses, passes, _then_, kept-or}
 use Rattle.bits.proofs.OutcomeLaws.{never, then-gives, then-passed, then-refused, then-refuses}
-use Rattle.container.specs.Packing.{word-count, fitting, Fitting, container-bytes}
-use Rattle.container.proofs.PackLaws.{unfitting}
+use Rattle.packing.specs.Packing.{word-count, fitting, Fitting, container-bytes}
+use Rattle.packing.proofs.PackLaws.{unfitting}
 use Rattle.verifier.specs.declared.verdict.Finding.{Finding}
 use Rattle.verifier.specs.Program.{Worded, Annotated, program-in}
 use Rattle.verifier.specs.Verdict.{finding, no-register, first, judge-word, judge-program, verdict-of}
-use Rattle.verifier.proofs.PackedLaws.{packed-verdict}
+use Rattle.infer.proofs.PackedLaws.{packed-verdict}
 use Rattle.infer.specs.Sweeps.{sweeps, proposal}
 use Rattle.infer.specs.Inference.{unannotated, proposed, pass-on, infer-outcome, infer-buffer}
 use Rattle.infer.specs.Asked.{Inferred}

@@ -22,7 +22,7 @@ use Rattle.record.specs.Registers.{reads, kills, defines}
 use Rattle.reader.specs.Reader.{lowest-stray, read-row, read}
 use Rattle.container.specs.Container.{version-of, count-of, entry-of, words-of, annotations-of}
 use Rattle.container.specs.Opening.{open-outcome}
-use Rattle.container.specs.Packing.{word-count, Fitting, front-bytes, container-bytes}
+use Rattle.packing.specs.Packing.{word-count, Fitting, front-bytes, container-bytes}
 use Rattle.verifier.specs.declared.verdict.Finding.{Finding}
 use Rattle.walks.proofs.Bounds.{reports-one}
 use Rattle.verifier.specs.Program.{successors, after, instruction-at, annotation-at, machine}

@@ -1,3 +1,4 @@
+pub mod PackedLaws
 pub mod ByteLaws
 pub mod PlanLaws
 pub mod SweepLaws

@@ -12,8 +12,8 @@ use Rattle.record.specs.declared.instruction.Instruction.{Instruction}
 use Rattle.record.specs.declared.answer.Refusal.{Refusal}
 use Rattle.reader.specs.Reader.{read}
 use Rattle.container.specs.Container.{eight, most-instructions}
-use Rattle.container.specs.Packing.{word-count, fitting, Fitting, container-bytes}
-use Rattle.container.proofs.PackLaws.{fitting-of}
+use Rattle.packing.specs.Packing.{word-count, fitting, Fitting, container-bytes}
+use Rattle.packing.proofs.PackLaws.{fitting-of}
 use Rattle.verifier.specs.declared.verdict.Finding.{Finding}
 use Rattle.verifier.specs.Program.{machine}
 use Rattle.verifier.specs.Verdict.{Judgement, finding, no-register, first, judge-reading, judge-word, verdict-of}

@@ -12,7 +12,7 @@ use Rattle.record.specs.declared.answer.Refusal.{Refusal}
 use Rattle.record.specs.declared.instruction.Instruction.{Instruction}
 use Rattle.reader.specs.Reader.{read}
 use Rattle.container.specs.Container.{eight}
-use Rattle.container.specs.Packing.{word-count, Fitting, container-bytes}
+use Rattle.packing.specs.Packing.{word-count, Fitting, container-bytes}
 use Rattle.walks.specs.Walks.{AllReached, Exact}
 use Rattle.walks.specs.Sweeps.{Reports}
 use Rattle.verifier.specs.declared.verdict.Finding.{Finding}

@@ -4,7 +4,7 @@ use mathlib.Core.List.{List, []}
 use Prim.Native.Nat.{ℕ}
 use lib.ListN.{length}
 use Rattle.bits.specs.Outcomes.{Outcome, gives, refuses, passes, require, _then_, kept-or}
-use Rattle.container.specs.Packing.{word-count, fitting, container-bytes}
+use Rattle.packing.specs.Packing.{word-count, fitting, container-bytes}
 use Rattle.verifier.specs.declared.verdict.Finding.{Finding}
 use Rattle.verifier.specs.Program.{Program, program-in}
 use Rattle.verifier.specs.Verdict.{Judgement, finding, no-register, first, judge-word, verdict-of}

@@ -5,7 +5,7 @@ use Prim.Native.Nat.{ℕ, suc}
 use lib.ListN.{length}
 use Rattle.bits.specs.Outcomes.{gives, refuses}
 use Rattle.bits.specs.Sets.{Has}
-use Rattle.container.specs.Packing.{word-count}
+use Rattle.packing.specs.Packing.{word-count}
 use Rattle.walks.specs.Sweeps.{Reports}
 use Rattle.verifier.specs.Program.{annotation-at, machine}
 use Rattle.infer.specs.Sweeps.{note, set-bytes}

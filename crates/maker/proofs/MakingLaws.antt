@@ -11,8 +11,8 @@ use lib.Seq.{take-all, length-take-le}
 use Rattle.bits.specs.Outcomes.{Outcome, gives, refuses, _then_}
 use Rattle.bits.proofs.OutcomeLaws.{never, then-gives, required}
 use Rattle.container.specs.Container.{container-length}
-use Rattle.container.specs.Packing.{word-count, fitting, Fitting, pack-buffer}
-use Rattle.container.proofs.PackLaws.{fitting-of, fitting-to, packs}
+use Rattle.packing.specs.Packing.{word-count, fitting, Fitting, pack-buffer}
+use Rattle.packing.proofs.PackLaws.{fitting-of, fitting-to, packs}
 use Rattle.verifier.specs.declared.verdict.Finding.{Finding}
 use Rattle.verifier.specs.Verdict.{finding, no-register}
 use Rattle.infer.specs.Inference.{infer-outcome}

@@ -6,13 +6,13 @@ use bits::bytes::load64;
 use bits::bytes::wide;
 use container::header::Opening;
 use container::header::open;
-use container::pack::Packing;
-use container::pack::pack;
 use container::parts::annotations;
 use container::view::Fetched;
 use container::view::open_count;
 use container::view::word_in;
 use container::view::word_of;
+use packing::Packing;
+use packing::pack;
 
 fn text(s: &[u8]) {
     io::write_all(libc::STDOUT_FILENO, s);

@@ -6,5 +6,4 @@ pub mod Demand3
 pub mod ReasonLaws
 pub mod LazyChecks
 pub mod NumberedLaws
-pub mod PackedLaws
 pub mod ReadLaws

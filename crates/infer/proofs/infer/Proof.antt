@@ -2,14 +2,14 @@ use mathlib.Core.Path.{refl, sym, _∙_}
 use native.Mathlib.Omega.{arith}
 use borrow.Author.Tests.{not-true, not-false}
 use denote.Ref.{now}
-use Rattle.container.proofs.PackLaws.{fitting-of}
+use Rattle.packing.proofs.PackLaws.{fitting-of}
 use Rattle.infer.proofs.InferLaws.{room, unfit}
 use borrow.Author.Needs.{needs}
 use Rattle.infer.proofs.infer.Statement.{statement}
 use Rattle.infer.proofs.infer.Tie as tie
 use Rattle.infer.proofs.infer.Reads as reads
 use Rattle.infer.proofs.infer.Lts as lts
-use Rattle.container.proofs.pack.fit.Reads as fit-reads
+use Rattle.packing.proofs.fit.Reads as fit-reads
 use Rattle.infer.proofs.infer_in.Reads as infer-in-reads
 use Rattle.infer.proofs.refuse.Reads as refuse-reads
 

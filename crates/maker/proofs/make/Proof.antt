@@ -3,7 +3,7 @@ use Prim.Native.Nat.{_+_, _*_}
 use native.Mathlib.Omega.{arith}
 use denote.Ref.{now}
 use lib.ListN.{length}
-use Rattle.container.specs.Packing.{word-count}
+use Rattle.packing.specs.Packing.{word-count}
 use Rattle.maker.proofs.MakingLaws.{few-words, lent, lent-length}
 use borrow.Author.Needs.{needs}
 use Rattle.maker.proofs.make.Statement.{statement}

@@ -4,7 +4,7 @@ use native.Mathlib.Omega.{arith}
 use borrow.Author.Needs.{needs}
 use denote.Ref.{now}
 use lib.ListN.{length, getD}
-use Rattle.container.proofs.FillLaws.{Begins, filled}
+use Rattle.packing.proofs.FillLaws.{Begins, filled}
 use Rattle.infer.specs.Sweeps.{set-bytes}
 use Rattle.infer.proofs.ByteLaws.{encoded, set-room}
 use Rattle.infer.proofs.encode.encode.Statement.{statement}

@@ -1,0 +1,35 @@
+// The comparison of two containers as a whole: the list of what differs, at once.
+use crate::list::put_lines;
+use container::view::open_count;
+use diff::answer::Listed;
+use diff::answer::Ready;
+use diff::both_read;
+use diff::line::FIELDS;
+use diff::numbers::MOST_NUMBERS;
+ghost use mathlib.Core.Path.{_≡_};
+ghost use Rattle.diff.specs.Answers.{listed-outcome, list-outcome, list-buffer};
+
+mod list;
+
+// The whole list, three numbers for each line, at the front of a buffer that has room for any.
+pub fn diff_lines<'a>(first: &'a [u8], second: &'a [u8], out: &mut [u64; MOST_NUMBERS]) -> Listed
+    ensures answer { λ r. ⌜ listed-outcome r ≡ list-outcome (now (first .entry)) (now (second .entry)) ⌝ }
+    ensures buffer { λ _. ⌜ now (out .exit) ≡ list-buffer (now (first .entry)) (now (second .entry)) (now (out .entry)) ⌝ }
+{
+    match both_read(first, second) {
+        Ready::Both => {
+            let mut xs = [0; FIELDS];
+            let mut ys = [0; FIELDS];
+            Listed::Lines(put_lines(
+                first,
+                open_count(first),
+                second,
+                open_count(second),
+                &mut xs,
+                &mut ys,
+                out,
+            ))
+        }
+        Ready::Unread(u) => Listed::Unread(u),
+    }
+}
