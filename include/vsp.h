@@ -12,10 +12,10 @@
  * null, even where the length is 0, and a buffer that is written to overlaps no other. Bytes
  * need no alignment; an array of uint64_t is aligned as every uint64_t is.
  *
- * Numbers of refusals; place is 0 but for 6 and 7, and 14 and 15 are never given:
+ * Numbers of refusals; place is 0 but for 3, 6 and 7, and 14 and 15 are never given:
  *    1  a word to read that isn't 8 bytes long
  *    2  the word is no instruction of the table; or a row above 76
- *    3  a bit is 1 that the instruction has no use for
+ *    3  a bit is 1 that the instruction has no use for; place is the lowest such bit
  *    4  the flow is a reserved one
  *    5  no half of the destination is written
  *    6  a modifier has an illegal value; place is the modifier's lowest bit, and of several

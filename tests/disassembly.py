@@ -2,7 +2,7 @@
 enumerations and the names of source document 002.
 
 As paper01.py it is a second opinion, and shares no table with the Rattle code."""
-from paper01 import ROWS, IMMEDIATES, SPECIALS, bits, check, effect, members, opening, parts, read
+from paper01 import ROWS, IMMEDIATES, SPECIALS, bits, check, effect, fits, members, opening, parts, read
 
 # ---- the text of an instruction
 
@@ -145,11 +145,30 @@ def target(w, i):
     return None if ends or offset is None else i + 1 + offset
 
 
+def stray(w, bit):
+    """Which bit is 1 that the word's row leaves unassigned, and what the row lacks there (paper 01, "The frame")."""
+    [row] = [row for row in ROWS if fits(row, w)]
+    modified = any(low <= bit < low + width for low, width, *_ in row['fields'])
+    if bit < 24:
+        assert row['sources'] <= bit // 8
+        lack = f'no source {bit // 8}'
+    elif bit < 40:
+        assert not modified and (bit >= 32 or row['sources'] <= 3)
+        lack = 'neither a source nor a modifier' if bit < 32 else 'no modifier'
+    else:
+        assert bit == 63 or not row['destination']
+        lack = 'nothing' if bit == 63 else 'no destination'
+    return f'bit {bit} is 1, where {row["name"]} has {lack}'
+
+
 def reason(w, number, place):
     """Why a word does not read."""
-    name = left_out(w)
-    return {2: 'no row fits' + (f'; {name}, left out by the scope' if name else ''), 3: 'a bit is 1 that it has no use for',
-            4: 'its flow is reserved', 5: 'neither half of its destination is written', 6: f'illegal modifier at bit {place}',
+    if number == 2:
+        name = left_out(w)
+        return 'no row fits' + (f'; {name}, left out by the scope' if name else '')
+    if number == 3:
+        return stray(w, place)
+    return {4: 'its flow is reserved', 5: 'neither half of its destination is written', 6: f'illegal modifier at bit {place}',
             7: f'source {place} is a reserved constant'}[number]
 
 

@@ -6,6 +6,7 @@
 Verdicts, places and entry sets are worked out from the paper (paper01.py)."""
 import os
 import sys
+from disassembly import reason
 from paper01 import check, difference_text, differences, listing, members, opening, parcel, parts, row_number, verdict_line, word
 
 B = 0x7800000000000000  # NOP, end
@@ -18,9 +19,18 @@ def unreadable(w):
 
 
 parcels = {
-    # words of paper 01, "Checked examples", and more places of 6 and 7
+    # words of paper 01, "Checked examples", and more places of 3, 6 and 7
     'word-2': unreadable(0x0091C10000010002),
     'word-3': unreadable(0x8000000000000000),
+    # what the word has at a stray bit, and the lowest of several
+    'word-3-source-0': unreadable(0x80),
+    'word-3-source-1': unreadable(0x0091C10000008002),
+    'word-3-source-2': unreadable(0x0091C10000100002),
+    'word-3-source-3': unreadable(0x0091C10001000002),
+    'word-3-modifier': unreadable(0x0091C18000000002),
+    'word-3-destination': unreadable(1 << 40),
+    'word-3-mesa': unreadable(0x0000C00000000000),  # NOP as Mesa writes it
+    'word-3-all': unreadable(0x8091C1FFFFF0FF02),
     'word-4': unreadable(0x5891C10000000002),
     'word-5': unreadable(0x0091010000000002),
     'word-6-bit-32': unreadable(0x00F0C00600020100),
@@ -99,14 +109,10 @@ def about_size(data):
 
 def meaning(data, number, place, index, register, start=16):
     """Of a refusal of a parcel, or of what else has its words from `start` on."""
-    word = f'the word at index {index}, {int.from_bytes(data[start + 8 * index:start + 8 * index + 8], "little"):016X},'
+    if 2 <= number <= 7:
+        w = int.from_bytes(data[start + 8 * index:start + 8 * index + 8], 'little')
+        return f'the word at index {index}, {w:016X}, is no legal instruction: {reason(w, number, place)}'
     return {
-        2: f'{word} is no instruction of the table',
-        3: f'{word} has a 1 in a bit that its instruction does not use',
-        4: f'{word} has a reserved flow',
-        5: f'{word} has a destination of which no half is written',
-        6: f'{word} has an illegal modifier, at bit {place}',
-        7: f'{word} has a reserved constant as source {place}',
         10: 'this is no parcel: it does not begin with the letters VSP',
         11: f'the parcel has version {int.from_bytes(data[3:5], "little")}, and this tool reads version 1',
         12: about_size(data),

@@ -25,8 +25,10 @@ cases = {
     'wrong-version': (parcel([A_END], [[2]], [2], version=2), 'REFUSED 11 0000 64\n'),
     'wrong-byte-5': (parcel([A_END], [[2]], [2], zero=1), 'REFUSED 13 0000 64\n'),
     'no-instructions': (parcel([], [], []), 'REFUSED 12 0000 64\n'),
-    'unreadable': (parcel([A, A | 1 << 63], [[2], [2]], [2]), 'REFUSED 03 0001 64\n'),
-    'unreadable-at-the-end': (largest[:16 + 8 * 2047] + (1 << 63).to_bytes(8, 'little') + largest[16 + 8 * 2048:], 'REFUSED 03 2047 64\n'),
+    'unreadable': (parcel([A, A | 1 << 63], [[2], [2]], [2]), 'REFUSED 03 0001 64 63\n'),
+    'unreadable-two-bits': (parcel([A, A | 1 << 63 | 1 << 9], [[2], [2]], [2]), 'REFUSED 03 0001 64 09\n'),
+    'unreadable-no-place': (parcel([A, 0x0091C10000010002], [[2], [2]], [2]), 'REFUSED 02 0001 64 00\n'),
+    'unreadable-at-the-end': (largest[:16 + 8 * 2047] + (1 << 63).to_bytes(8, 'little') + largest[16 + 8 * 2048:], 'REFUSED 03 2047 64 63\n'),
     # the longest containers and listings
     'largest': (largest, None),
     'longest-names': (longest_names, None),

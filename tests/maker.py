@@ -72,7 +72,8 @@ cases = {
     'loop-that-releases': ([mov(1, 2), mov(3, 64 + 1), branch(-2, source=3), B], [2], NO_NOTES),
     # words that do not read, the lowest first, before 24 and after the length
     'word-2': ([NOP, 0x0091C10000010002, B], [3], (2, 0, 1)),
-    'word-3': ([NOP, 0x8000000000000000, B], [3], (3, 0, 1)),
+    'word-3': ([NOP, 0x8000000000000000, B], [3], (3, 63, 1)),
+    'word-3-two-bits': ([NOP, 0x8091C10000000202, B], [3], (3, 9, 1)),
     'word-4': ([NOP, 0x5891C10000000002, B], [3], (4, 0, 1)),
     'word-5': ([NOP, 0x0091010000000002, B], [3], (5, 0, 1)),
     'word-6-bit-32': ([NOP, 0x00F0C00600020100, B], [3], (6, 32, 1)),
@@ -82,7 +83,7 @@ cases = {
     'a-parcel': (parcel([B], [[]], []), [], (2, 0, 0)),
     'begins-as-a-parcel': (b'VSP', [], LENGTH),
     'two-words': ([A, 0x0091C100000000E0, 1 << 63], [], (7, 0, 1)),
-    'word-at-the-end': ([NOP] * 2047 + [1 << 63], [], (3, 0, 2047)),
+    'word-at-the-end': ([NOP] * 2047 + [1 << 63], [], (3, 63, 2047)),
     # lengths
     'length-0': (b'', [0], LENGTH),
     'length-1': (b'\0', [0], LENGTH),

@@ -210,8 +210,9 @@ def read(data):
         return 'refused', 2, 0
     [k] = rows
     row = ROWS[k]
-    if w & ~assigned(row):
-        return 'refused', 3, 0
+    stray = [b for b in range(64) if bits(w & ~assigned(row), b, 1)]
+    if stray:
+        return 'refused', 3, min(stray)  # paper 02, Item 5
     if bits(w, 59, 4) in (11, 12, 14):
         return 'refused', 4, 0
     if row['destination'] and bits(w, 46, 2) == 0:
@@ -351,8 +352,9 @@ def name_of(w):
     return ROWS[read(w.to_bytes(8, 'little'))[1]]['name']
 
 
-def verdict_line(number, _, index, register):
-    return f'REFUSED {number:02d} {index:04d} {register:02d}'
+def verdict_line(number, place, index, register):
+    """The place is told of a word that does not read (paper 02, Item 5)."""
+    return f'REFUSED {number:02d} {index:04d} {register:02d}' + (f' {place:02d}' if 2 <= number <= 7 else '')
 
 
 def listing(data):
@@ -480,6 +482,5 @@ def differ(first, second):
     kind, *rest = differences(first, second)
     if kind == 'list':
         return ''.join(difference_text(*line) for line in rest[0]), ''
-    which, number, place, index, register = rest
-    told = f'differ: place {place}\n' if number in (6, 7) else ''
-    return '', f'differ: {which}\n{verdict_line(number, place, index, register)}\n{told}'
+    which, *refused = rest
+    return '', f'differ: {which}\n{verdict_line(*refused)}\n'

@@ -12,9 +12,9 @@ from disassembly import column, shown
 from paper01 import infer, listing, parts
 
 folder = os.path.join(os.path.dirname(os.path.abspath(__file__)), '..', 'samples')
-verdicts = {'approved': 'ACCEPTED', 'unfilled': 'REFUSED 20 0003 05', 'lying': 'REFUSED 22 0002 05', 'stray': 'REFUSED 03 0002 64', 'loop': 'ACCEPTED',
+verdicts = {'approved': 'ACCEPTED', 'unfilled': 'REFUSED 20 0003 05', 'lying': 'REFUSED 22 0002 05', 'stray': 'REFUSED 03 0002 64 08', 'loop': 'ACCEPTED',
             'trusting': 'ACCEPTED', 'inferred': 'ACCEPTED', 'special': 'ACCEPTED', 'sloped': 'ACCEPTED', 'inserted': 'ACCEPTED',
-            'shortened': 'ACCEPTED', 'omitted': 'REFUSED 02 0003 64'}
+            'shortened': 'ACCEPTED', 'omitted': 'REFUSED 02 0003 64 00'}
 # The entry set, and what the text says. Where notes are made, the parcel is the sample's own.
 noted = {'approved': ([0, 1], '5 sweeps'), 'inferred': ([0, 1], '6 sweeps'), 'unfilled': ([0, 1], '`REFUSED 24 0000 64`')}
 # What is to be compared with the approved program, the text that says so, and what of standard error it names.
@@ -22,7 +22,7 @@ compared = {'approved': ('diff', 'vsp: nothing differs: the two parcels are the 
             'sloped': ('sloped', 'vsp: 1 of 5 instructions differs'),
             'inserted': ('inserted', 'vsp: 4 of the 5 instructions that both have differ; 1 added; the notes of 2 differ'),
             'shortened': ('shortened', 'vsp: 3 of the 4 instructions that both have differ; 1 removed; the entry sets differ'),
-            'stray': ('diff', 'REFUSED 03 0002 64')}
+            'stray': ('diff', 'REFUSED 03 0002 64 08')}
 
 
 def stored(name):

@@ -130,7 +130,7 @@ filled before the start, by the parcel's own claim: r0-r3,r5,r63
  0314  00A0C00000000201  -- 2: no row fits; IADD.u32, left out by the scope\x20
  0315  00F8C00002020100  -- 2: no row fits; ICMP_MULTI.s32, left out by the scope\x20
  0316  00B4C00000030201  -- 2: no row fits; a shift, as LSHIFT_AND.i32, left out by the scope\x20
- 0317  8000000000000000  -- 3: a bit is 1 that it has no use for\x20
+ 0317  8000000000000000  -- 3: bit 63 is 1, where NOP has nothing\x20
  0318  5891C10000000002  -- 4: its flow is reserved\x20
  0319  0091010000000002  -- 5: neither half of its destination is written\x20
  0320  00F0C00600020100  -- 6: illegal modifier at bit 32\x20

@@ -39,7 +39,7 @@ cases = [
     ('mark and version', parcel([A_END], [[2]], [2], mark=b'vSP', version=2), (10, 0, 0, 64)),
     ('version and byte 5', parcel([A_END], [[2]], [2], version=0, zero=1), (11, 0, 0, 64)),
     ('byte 5 and n', parcel([A_END], [[2]], [2], zero=7, n=0), (13, 0, 0, 64)),
-    ('unreadable word and 23', parcel([A, A | 1 << 63], [[1], []], []), (3, 0, 1, 64)),
+    ('unreadable word and 23', parcel([A, A | 1 << 63], [[1], []], []), (3, 63, 1, 64)),
     ('two unreadable words', parcel([NOP, 0x00F0C00600020100, 1 << 63], [[], [], []], []), (6, 32, 1, 64)),
     ('unreadable source', parcel([0x00A4C0000000E001], [[]], []), (7, 1, 0, 64)),
     ('23 and 20', parcel([A_END], [[3]], []), (23, 0, 0, 3)),

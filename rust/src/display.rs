@@ -30,7 +30,7 @@ impl Fault {
         match self.number {
             1 => f.write_str("the word isn't 8 bytes long"),
             2 => f.write_str("the word is no instruction of the table"),
-            3 => f.write_str("a bit is 1 that the instruction has no use for"),
+            3 => write!(f, "a bit is 1 that the instruction has no use for (bit {place})"),
             4 => f.write_str("the flow is a reserved one"),
             5 => f.write_str("no half of the destination is written"),
             6 => write!(f, "a modifier has an illegal value (bit {place})"),

@@ -51,7 +51,8 @@ pub struct Form {
 #[derive(Clone, Copy, Debug, PartialEq, Eq)]
 pub struct Refusal {
     pub number: u8,
-    /// The lowest bit of the modifier (6), the index of the source (7), else 0.
+    /// The lowest stray bit (3), the lowest bit of the modifier (6), the index of the source (7),
+    /// else 0.
     pub place: u8,
 }
 
@@ -62,6 +63,7 @@ pub enum Verdict {
     Accepted,
     Refused {
         number: u8,
+        /// As in [`Refusal`].
         place: u8,
         /// The instruction at fault, 0 where the parcel doesn't open.
         index: u16,
@@ -80,6 +82,7 @@ pub enum Inference {
     },
     Refused {
         number: u8,
+        /// As in [`Refusal`].
         place: u8,
         /// The instruction at fault, 0 where none is.
         index: u16,
@@ -137,6 +140,7 @@ pub enum Side {
 pub struct Unread {
     pub side: Side,
     pub number: u8,
+    /// As in [`Refusal`].
     pub place: u8,
     /// The lowest word that isn't legal, 0 where the parcel doesn't open.
     pub index: u16,

@@ -18,7 +18,7 @@ fn refusals() {
     let examples = [
         (1, 0, "refused with 1: the word isn't 8 bytes long"),
         (2, 0, "refused with 2: the word is no instruction of the table, or the row is above 76"),
-        (3, 0, "refused with 3: a bit is 1 that the instruction has no use for"),
+        (3, 40, "refused with 3: a bit is 1 that the instruction has no use for (bit 40)"),
         (4, 0, "refused with 4: the flow is a reserved one"),
         (5, 0, "refused with 5: no half of the destination is written"),
         (6, 32, "refused with 6: a modifier has an illegal value (bit 32)"),
@@ -39,7 +39,7 @@ fn refusals_that_are_given() {
     let read = |word: u64| vsp::read(&word.to_le_bytes()).unwrap_err().to_string();
     assert_eq!(read(0x00F0_C006_0002_0100), "refused with 6: a modifier has an illegal value (bit 32)");
     assert_eq!(read(0x0091_C100_0000_00E2), "refused with 7: a source is a word of a reserved constant (source 0)");
-    assert_eq!(read(STRAY), "refused with 3: a bit is 1 that the instruction has no use for");
+    assert_eq!(read(STRAY), "refused with 3: a bit is 1 that the instruction has no use for (bit 63)");
     assert_eq!(vsp::read(&[0; 9]).unwrap_err().to_string(), "refused with 1: the word isn't 8 bytes long");
     let sentence = "refused with 2: the word is no instruction of the table, or the row is above 76";
     assert_eq!(read(0x0091_C100_0001_0002), sentence);
@@ -66,7 +66,7 @@ fn verdicts() {
             "refused with 23 at instruction 0: it has a note that names r1, which the parcel doesn't say is filled \
              before the start",
         ),
-        (4, &[MOV, STRAY], &[4, 4], "refused with 3 at instruction 1: a bit is 1 that the instruction has no use for"),
+        (4, &[MOV, STRAY], &[4, 4], "refused with 3 at instruction 1: a bit is 1 that the instruction has no use for (bit 63)"),
         (4, &[1 << 48], &[4], "refused with 2 at instruction 0: the word is no instruction of the table"),
     ];
     for (entry, words, notes, sentence) in examples {
@@ -106,7 +106,7 @@ fn inferences() {
     assert_eq!(infer(&[], 4, 0), lengths);
     let none = "refused with 24: with these words and this entry set no notes at all would be accepted";
     assert_eq!(infer(&[MOV], 4, 8), none);
-    let stray = "refused with 3 at instruction 1: a bit is 1 that the instruction has no use for";
+    let stray = "refused with 3 at instruction 1: a bit is 1 that the instruction has no use for (bit 63)";
     assert_eq!(infer(&[MOV, STRAY], 4, 16), stray);
     let large = Inference::Refused { number: 6, place: 36, index: 2047, register: 64 };
     let sentence = "refused with 6 at instruction 2047: a modifier has an illegal value (bit 36)";
@@ -119,7 +119,7 @@ fn comparisons() {
     let stray = parcel(4, &[MOV, STRAY], &[4, 4]);
     let unread = vsp::differences(&good, &stray).unwrap_err();
     let sentence =
-        "the second parcel is refused with 3 at instruction 1: a bit is 1 that the instruction has no use for";
+        "the second parcel is refused with 3 at instruction 1: a bit is 1 that the instruction has no use for (bit 63)";
     assert_eq!(unread.to_string(), sentence);
     let unread = vsp::difference(&good[1..], &stray, 0).unwrap_err();
     assert_eq!(unread.to_string(), "the first parcel is refused with 10: the mark isn't VSP");

@@ -98,10 +98,10 @@ fn lists_samples() {
     lists_sample(&program, "special.vsp", listing, 0);
     let listing = "0000 00A4C20000008040 FADD.f32 r2, ^r0, u0\n\
                    0001 00A4C30000008141 FADD.f32 r3, ^r1, u1\n\
-                   0002 009CC40000000182 refused 3 place 0\n\
+                   0002 009CC40000000182 refused 3 place 8\n\
                    0003 00A4C20000000342 FADD.f32 r2, ^r2, r3\n\
                    0004 7891C00000000042 MOV.i32.end r0, ^r2\n\
-                   REFUSED 3 place 0 index 2 register 64\n";
+                   REFUSED 3 place 8 index 2 register 64\n";
     lists_sample(&program, "stray.vsp", listing, 1);
 }
 

@@ -104,6 +104,24 @@ fn words_with_one_fault() {
     }
 }
 
+/// 3 names the lowest bit that the row doesn't own, whichever other one is set with it.
+#[test]
+fn every_stray_bit() {
+    let mut rng = Rng::new(110);
+    for row in rows() {
+        let word = encode(&fresh_of(row));
+        let unowned = !assigned(&ROWS[row as usize]);
+        let stray: Vec<u32> = (0..64).filter(|bit| unowned >> bit & 1 == 1).collect();
+        for &low in &stray {
+            for &high in stray.iter().filter(|&&high| high >= low) {
+                let code = compare_word(&mut rng, word | 1 << low | 1 << high);
+                assert_eq!(code, 3 + 256 * low, "row {row}, bits {low} and {high}");
+            }
+        }
+        assert_eq!(stray.last(), Some(&63));
+    }
+}
+
 #[test]
 fn every_source_byte_on_every_page() {
     let mut rng = Rng::new(106);

@@ -62,6 +62,12 @@ module _ {R : Type 0} (P : R → Type 0) where
   of-then (gives _) b f g = g
   of-then (refuses x) b f g = of-refuses x (f x refl)
 
+  -- the refusal of a test is asked where the test fails, and the rest where it passes
+  pub on-failed : {A : Type 0} (t : Bool) (x : R) → (t ≡ false → P x) → {b : Outcome R A} → (t ≡ true → Refusals b) → Refusals (require t x then b)
+  unfolding _then_
+  on-failed true x p f = f refl
+  on-failed false x p f = of-refuses x (p refl)
+
   pub on : (t : Bool) (x : R) → P x → {A : Type 0} {b : Outcome R A} → Refusals b → Refusals (require t x then b)
   on t x p {A} {b} f = of-then (require t x) b (of-require t x p) f
 

@@ -25,6 +25,8 @@ use Rattle.record.proofs.NumberedLaws as record-numbers
 use Rattle.reader.proofs.NumberedLaws as reader-numbers
 use Rattle.record.proofs.instruction.Instruction.fresh as fresh-call
 use Rattle.reader.specs.Reader.{read}
+use Rattle.reader.specs.Stray.{NamesStray}
+use Rattle.reader.proofs.StrayNamed as stray-named
 use Rattle.writer.specs.Writer.{write, stored}
 use Rattle.writer.proofs.RoundTrip as round-trip
 use Rattle.codec.specs.Demand2.{Demand2, LegalRecord}
@@ -56,6 +58,8 @@ use Rattle.verifier.specs.declared.verdict.Finding.{Finding}
 use Rattle.verifier.specs.Verdict.{Judgement, verdict-of, all-read}
 use Rattle.verifier.specs.Program.{Program, machine, WellFormed}
 use Rattle.verifier.specs.Reasons.{Reason}
+use Rattle.verifier.specs.Passed.{PassesOn}
+use Rattle.verifier.proofs.PassedLaws as passed-on
 use Rattle.verifier.specs.Demand3.{Demand3}
 use Rattle.verifier.specs.Lazy.{WavesThrough}
 use Rattle.walks.specs.Walks.{Machine, HoldsIfSupplied}
@@ -95,6 +99,8 @@ use Rattle.diff.proofs.RefusalLaws as diff-refusals
 use Rattle.leftout.specs.LeftOut.{Apart}
 use Rattle.leftout.proofs.StandsApart as stands-apart
 use Rattle.disasm.proofs.«write» as text-call
+use Rattle.wordtext.specs.Lacks.{LackTrue}
+use Rattle.wordtext.proofs.StrayLaws as word-stray
 use Rattle.show.specs.Show.{shown}
 use Rattle.show.proofs.«write» as show-call
 use Rattle.show.proofs.FrontLaws as show-fronts
@@ -448,6 +454,19 @@ numbers-tell-lines = number-laws.tell-lines
 -- the text of a line has all digits of its index and of both contents
 pub lines-shown-whole : (a b : List ℕ) → ShownWhole a b
 lines-shown-whole = shown-laws.shown-whole
+
+-- ---- Item 5 of paper 02: refusal 3 names the lowest bit that is 1 and that the word's row leaves unassigned, and the check passes number and
+-- place of a reading refusal on unchanged. Of the maker `as-asked` says so, of a comparison `compares-as-asked`, and of the lister, whose line
+-- has the place for such a refusal and no other, `listed`: each has a field `passed`.
+pub names-stray : NamesStray read
+names-stray = stray-named.names-stray
+
+pub check-passes-on : PassesOn verdict-of
+check-passes-on = passed-on.passes-on
+
+-- what is told of such a bit is so: the row lacks what would stand there
+pub lack-true : LackTrue
+lack-true = word-stray.lack-true
 
 -- ---- The listing: of a well-formed parcel a line for each word and then the verdict, else the verdict only; no digit is lost
 pub listed : (s : List ℕ) → T (areBytes s) → ListedAsAsked s (listing s)

@@ -1,5 +1,5 @@
--- Examples A to L (01, Checked examples; L as 02, Item 2, mends it): what each word reads as, what its sources mean, and that writing gives the
--- word back.
+-- Examples A to L (01, Checked examples; L as 02, Item 2, mends it, and H with the place of 02, Item 5): what each word reads as, what its
+-- sources mean, and that writing gives the word back.
 use mathlib.Core.Path.{_≡_}
 use mathlib.Core.List.{List, [], _∷_, _++_, map}
 use Prim.Native.Nat.{ℕ}
@@ -61,8 +61,8 @@ examples =
     ∷ reads-as 0x00A5C00028000201 (instruction 54 0 0 0 3 1 2 (modifiers 2 2 0) (pos 0)) (register-read 1 ∷ register-read 2 ∷ [])
     -- G: MOV r1, uniform 69
     ∷ reads-as 0x0291C10000000085 (instruction 30 1 0 1 3 0x85 0 (modifiers 0 0 0) (pos 0)) (uniform 69 ∷ [])
-    -- H: 3; I: 2; J: 4; K: 6, place 32
-    ∷ refused-with 0x8000000000000000 3 0
+    -- H: 3, place 63 (02, Item 5); I: 2; J: 4; K: 6, place 32
+    ∷ refused-with 0x8000000000000000 3 63
     ∷ refused-with 0x0091C10000010002 2 0
     ∷ refused-with 0x5891C10000000002 4 0
     ∷ refused-with 0x00F0C00600020100 6 32

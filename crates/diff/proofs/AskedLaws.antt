@@ -1,7 +1,7 @@
 -- The comparison is what the paper asks. Assumes nothing.
 use mathlib.Core.Path.{_≡_, refl, sym, ap, _∙_}
 use mathlib.Core.List.{List}
-use mathlib.Core.Logic.{_↔_}
+use mathlib.Core.Logic.{_↔_, ⊎-elim}
 use mathlib.Core.Option.{Option, none, some}
 use Prim.Native.Nat.{ℕ}
 use lib.Dec.{T}
@@ -9,21 +9,25 @@ use lib.Pow.{areBytes}
 use Rattle.bits.specs.Lists.{kth}
 use Rattle.bits.specs.Outcomes.{Outcome, gives, refuses, passes}
 use Rattle.bits.proofs.ListLaws.{kth-stays}
-use Rattle.bits.proofs.OutcomeLaws.{then-passed, then-refused}
+use Rattle.bits.proofs.OutcomeLaws.{never, then-passed, then-refused, then-refuses}
+use Rattle.container.specs.Container.{count-of, words-of}
 use Rattle.verifier.specs.declared.verdict.Finding.{Finding}
 use Rattle.verifier.specs.Program.{WellFormed}
 use Rattle.verifier.specs.Verdict.{all-read}
+use Rattle.verifier.specs.Passed.{Unreadable, PassedOn}
 use Rattle.diff.specs.declared.answer.Side.the-variants.{First, Second}
 use Rattle.diff.specs.declared.answer.Unread.{Unread}
 use Rattle.diff.specs.declared.line.Line.{Line}
 use Rattle.diff.specs.Differences.{differences}
-use Rattle.diff.specs.Answers.{of-side, both-read, line-outcome}
+use Rattle.diff.specs.Answers.{of-side, side-of, both-read, line-outcome}
 use Rattle.diff.specs.Asked.{Before, Compares}
 use Rattle.verifier.proofs.ReadLaws.{all-of}
+use Rattle.verifier.proofs.PassedLaws.{of-words}
 use Rattle.diff.proofs.ListLaws.{kth-member, member-kth, no-member, ordered-kth}
 use Rattle.diff.proofs.DiffersLaws.{listed-differs, differs-listed}
 use Rattle.diff.proofs.OrderLaws.{differences-ordered}
 use Rattle.diff.proofs.EqualLaws.{no-self, same-bytes}
+use Rattle.diff.proofs.RefusalLaws.{as-checked}
 
 given : {x y : Option Line} → _≡_ {A = Outcome Unread (Option Line)} (gives x) (gives y) → x ≡ y
 given e = cc
@@ -38,6 +42,12 @@ module _ (a b : List ℕ) where
   unfolding line-outcome both-read
   second-refused e f d k =
       then-refused (gives (kth (differences a b) k)) (then-passed (of-side Second (all-read b)) (ap (of-side First) e) ∙ ap (of-side Second) d)
+
+  -- and passed on as the reader has it
+  passed-on : (k : ℕ) (u : Unread) → line-outcome a b k ≡ refuses u → Unreadable (u .finding)
+      → PassedOn (words-of (side-of a b (u .side))) (count-of (side-of a b (u .side))) (u .finding)
+  unfolding line-outcome
+  passed-on k u e = of-words (side-of a b (u .side)) (u .finding) (as-checked a b u (⊎-elim (λ q. q) (λ q. never (sym q)) (then-refuses (both-read a b) (gives (kth (differences a b) k)) u e)))
 
   -- where both can, the answer is the line of the list
   module _ (f : WellFormed a) (g : WellFormed b) where
@@ -67,6 +77,7 @@ pub compares : Compares line-outcome
 compares a b t u = record {
   first-unread = first-refused a b;
   second-unread = second-refused a b;
+  passed = passed-on a b;
   told = λ f g k. (kth (differences a b) k, answered a b f g k);
   true-lines = λ f g k l e. listed-differs a b (kth-member (differences a b) k (line-at a b f g k e));
   all-lines = λ f g l d. let m = member-kth (differs-listed a b d) in (m .0, at-line a b f g (m .0) (m .1));

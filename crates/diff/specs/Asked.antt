@@ -8,16 +8,18 @@ use lib.Dec.{T}
 use lib.ListN.{getD}
 use lib.Pow.{areBytes}
 use Rattle.bits.specs.Outcomes.{Outcome, gives, refuses, passes}
-use Rattle.container.specs.Container.{count-of, entry-of}
+use Rattle.container.specs.Container.{count-of, entry-of, words-of}
 use Rattle.verifier.specs.declared.verdict.Finding.{Finding}
 use Rattle.verifier.specs.Program.{WellFormed}
 use Rattle.verifier.specs.Verdict.{all-read}
+use Rattle.verifier.specs.Passed.{Unreadable, PassedOn}
 use Rattle.diff.specs.declared.answer.Side.the-variants.{First, Second}
 use Rattle.diff.specs.declared.answer.Unread.{Unread}
 use Rattle.diff.specs.declared.line.What.{What}
 use Rattle.diff.specs.declared.line.What.the-variants.{Row, Page, Flow, Destination, Source, Modifier, Added, Removed, Entry, Annotation}
 use Rattle.diff.specs.declared.line.Line.{Line}
 use Rattle.diff.specs.Records.{fields, field-count, contents}
+use Rattle.diff.specs.Answers.{side-of}
 use Rattle.diff.specs.Differences.{line, instruction-of, word-of, note-of, shared}
 
 -- what field j holds in the instruction at index i
@@ -77,6 +79,9 @@ pub record AsAsked (a b : List ℕ) (answer : ℕ → Outcome Unread (Option Lin
   pub first-unread : (f : Finding) → all-read a ≡ refuses f → (k : ℕ) → answer k ≡ refuses (record { side = First; finding = f })
   pub second-unread : all-read a ≡ passes → (f : Finding) → all-read b ≡ refuses f
       → (k : ℕ) → answer k ≡ refuses (record { side = Second; finding = f })
+  -- a refusal of a word is the reader's own, passed on unchanged (02, Item 5)
+  pub passed : (k : ℕ) (u : Unread) → answer k ≡ refuses u → Unreadable (u .finding)
+      → PassedOn (words-of (side-of a b (u .side))) (count-of (side-of a b (u .side))) (u .finding)
   -- where both do, a line is told, or that there are fewer,
   pub told : WellFormed a → WellFormed b → (k : ℕ) → (o : Option Line) × (answer k ≡ gives o)
   -- each line tells what differs,

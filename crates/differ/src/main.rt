@@ -32,8 +32,6 @@ use diff::numbers::MOST_LINES;
 use difftext::write_line;
 use input::Input;
 use listing::LONGEST_VERDICT;
-use listing::place::Place;
-use listing::place::place_of;
 use listing::write_verdict;
 use verifier::verdict::Verdict;
 
@@ -54,18 +52,6 @@ fn read_part(buffer: &mut [u8]) -> Input
 
 fn tell(text: &[u8]) -> bool {
     io::write_all(libc::STDERR_FILENO, text)
-}
-
-// Tells the place, where there is one.
-fn tell_place(place: Place) {
-    match place {
-        Place::At(p) => {
-            tell(b"differ: place ");
-            io::print_decimal(libc::STDERR_FILENO, p as u64);
-            tell(b"\n");
-        }
-        Place::Nowhere => {}
-    }
 }
 
 // The one way to standard output: the text of line k of what differs. It is written until all of it is, or until a write fails.
@@ -156,7 +142,6 @@ fn refuse(bytes: &[u8], input: Input, u: Unread)
         Side::First => tell_refusal(bytes, input, u, b"differ: first\n", &line[..n]),
         Side::Second => tell_refusal(bytes, input, u, b"differ: second\n", &line[..n]),
     }
-    tell_place(place_of(v));
 }
 
 fn compare<'a>(bytes: &'a [u8], input: Input, first: &'a [u8], second: &'a [u8])

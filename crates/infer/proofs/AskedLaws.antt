@@ -30,15 +30,18 @@ use Rattle.walks.proofs.RestLaws.{reached-noted}
 use Rattle.verifier.specs.declared.verdict.Finding.{Finding}
 use Rattle.verifier.specs.Program.{Program, successors, after, annotation-at, program-in, program-of, machine, machine-of}
 use Rattle.verifier.specs.Verdict.{Judgement, finding, no-register, first, judge-reading, judge-word, judge-program, verdict-of}
+use Rattle.verifier.specs.Passed.{ReadBefore, Unreadable, PassedOn}
 use Rattle.verifier.proofs.VerdictLaws.{both, neither, first-of, first-to, first-stop}
+use Rattle.verifier.proofs.PassedLaws.{words-passed-on}
 use Rattle.verifier.proofs.ProgramLaws.{passes-of, passes-to, eight-lt}
 use Rattle.verifier.proofs.Demand3.{accepted, word-of}
 use Rattle.infer.proofs.PackedLaws.{packed-program, packed-verdict}
 use Rattle.infer.specs.Sweeps.{all-registers, among, first-note, narrowed-if, swept, note, sweeps, set-bytes, proposal}
 use Rattle.infer.specs.Inference.{unannotated, proposed, none-acceptable, pass-on, infer-outcome, infer-buffer}
-use Rattle.infer.specs.Asked.{Acceptable, ReadBefore, AsAsked, Inferred, Asked, Maker}
+use Rattle.infer.specs.Asked.{Acceptable, AsAsked, Inferred, Asked, Maker}
 use Rattle.infer.proofs.ByteLaws.{set-bytes-length, are-bytes, set-back}
 use Rattle.infer.proofs.SweepLaws as sweep-laws
+use Rattle.infer.proofs.NumberedLaws.{all-refusals}
 
 -- a note is a 64-bit number
 swept-le : (p : Program) (old : ℕ → ℕ) (t j : ℕ) → swept p old t j ≤ old j
@@ -219,10 +222,16 @@ module _ (words : List ℕ) (entry : ℕ) (small : entry < 2 ^ 64) where
     unfolding infer-buffer
     kept f e = ap (λ (o : Outcome Finding ℕ). kept-or o offer buffer) e
 
+    passed-on : (f : Finding) → answer ≡ refuses f → Unreadable f → PassedOn words n f
+    passed-on =
+        all-refusals words entry buffer (λ (f : Finding). Unreadable f → PassedOn words n f) (λ u. absurd (omega (arith, u .1))) (λ u. absurd (omega (arith, u .1)))
+        (λ fits f e u. words-passed-on words n e)
+
     pub as-asked : AsAsked words entry buffer answer (infer-buffer words entry buffer)
     as-asked = record {
       unfit = answer-unfit;
       unreadable = answer-unread;
+      passed = passed-on;
       refused = answer-none;
       none = λ f r. (none-of f r, none-to f r);
       counted = counts;

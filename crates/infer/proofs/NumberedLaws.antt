@@ -42,7 +42,7 @@ module _ (words : List ℕ) (entry : ℕ) (buffer : List ℕ) where
   n = word-count (length words)
 
   -- what holds of 12, of 24 and of each refusal of a word holds of each refusal
-  all-refusals : (P : Finding → Type 0) → P (finding 12 0 0 no-register) → P none-acceptable
+  pub all-refusals : (P : Finding → Type 0) → P (finding 12 0 0 no-register) → P none-acceptable
       → (Fitting (length words) (length buffer) → Refusals P (first (judge-word words) n)) → Refusals P (infer-outcome words entry buffer)
   unfolding infer-outcome _then_
   all-refusals P p12 p24 h = go (fitting (length words) (length buffer)) refl

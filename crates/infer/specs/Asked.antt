@@ -9,7 +9,6 @@ use lib.Pow.{areBytes}
 use Rattle.bits.specs.Outcomes.{Outcome, gives, refuses, passes}
 use Rattle.bits.specs.Sets.{Has}
 use Rattle.record.specs.declared.answer.Refusal.{Refusal}
-use Rattle.record.specs.declared.instruction.Instruction.{Instruction}
 use Rattle.reader.specs.Reader.{read}
 use Rattle.container.specs.Container.{eight}
 use Rattle.packing.specs.Packing.{word-count, Fitting, container-bytes}
@@ -18,15 +17,12 @@ use Rattle.walks.specs.Sweeps.{Reports}
 use Rattle.verifier.specs.declared.verdict.Finding.{Finding}
 use Rattle.verifier.specs.Program.{annotation-at, machine, machine-of}
 use Rattle.verifier.specs.Verdict.{finding, no-register, verdict-of}
+use Rattle.verifier.specs.Passed.{ReadBefore, Unreadable, PassedOn}
 use Rattle.infer.specs.Inference.{unannotated, none-acceptable, infer-outcome, infer-buffer}
 
 -- the check accepts the container of these words, this entry set and these annotations
 abbrev pub Acceptable : List ℕ → ℕ → List ℕ → Type 0
 Acceptable words entry annotations = verdict-of (container-bytes entry words annotations) ≡ passes
-
--- the words before index i read
-abbrev pub ReadBefore : List ℕ → ℕ → Type 0
-ReadBefore words i = (k : ℕ) → k < i → (x : Instruction) × (read (eight words k) ≡ gives x)
 
 -- what is asked of an answer and of the buffer afterwards, without a word of how the annotations are found
 pub record AsAsked (words : List ℕ) (entry : ℕ) (buffer : List ℕ) (answer : Outcome Finding ℕ) (after : List ℕ) : Type 0 where
@@ -35,6 +31,8 @@ pub record AsAsked (words : List ℕ) (entry : ℕ) (buffer : List ℕ) (answer 
   -- then the lowest word that does not read: its own number and place, and its index,
   pub unreadable : Fitting (length words) (length buffer) → (i : ℕ) → i < word-count (length words) → ReadBefore words i
       → (f : Refusal) → read (eight words i) ≡ refuses f → answer ≡ refuses (finding (f .number) (f .place) i no-register)
+  -- so that a refusal of a word is the reader's own, passed on unchanged (02, Item 5),
+  pub passed : (f : Finding) → answer ≡ refuses f → Unreadable f → PassedOn words (word-count (length words)) f
   -- then 24, and no other refusal,
   pub refused : Fitting (length words) (length buffer) → ReadBefore words (word-count (length words))
       → (f : Finding) → answer ≡ refuses f → f ≡ none-acceptable

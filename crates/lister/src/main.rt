@@ -1,5 +1,5 @@
 // Reads a container from standard input and writes its listing to standard output: a line for each instruction where all words read, then
-// the verdict. A program here has no exit status, so what fails is told on standard error, and so is the place that a refusal names.
+// the verdict. A program here has no exit status, so what fails is told on standard error.
 ghost use mathlib.Core.Path.{_≡_};
 ghost use lib.ListN.{length};
 ghost use Rattle.input.specs.declared.Input.the-variants.{Bytes};
@@ -12,8 +12,6 @@ use container::layout::MOST_INSTRUCTIONS;
 use container::layout::WORD_LENGTH;
 use input::Input;
 use listing::LONGEST;
-use listing::place::Place;
-use listing::place::place_of;
 
 // One byte more than the longest container: what is longer is refused by this part alone.
 const MOST: usize = HEADER_LENGTH + (WORD_LENGTH + ANNOTATION_LENGTH) * MOST_INSTRUCTIONS + 1;
@@ -28,18 +26,6 @@ fn read_part(buffer: &mut [u8]) -> Input
 
 fn complain(text: &[u8]) -> bool {
     io::write_all(libc::STDERR_FILENO, text)
-}
-
-// Tells the place on standard error, where there is one.
-fn tell_place(place: Place) {
-    match place {
-        Place::At(p) => {
-            complain(b"lister: place ");
-            io::print_decimal(libc::STDERR_FILENO, p as u64);
-            complain(b"\n");
-        }
-        Place::Nowhere => {}
-    }
 }
 
 // The one way to standard output: the text is the listing of the bytes. It is written until all of it is, or until a write fails.
@@ -65,7 +51,6 @@ fn report(bytes: &[u8], input: Input)
     if !list(bytes, input) {
         complain(b"lister: standard output cannot be written\n");
     }
-    tell_place(place_of(verifier::verify(bytes)));
 }
 
 fn main() {

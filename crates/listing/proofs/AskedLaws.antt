@@ -1,6 +1,6 @@
 -- The listing is what the paper asks, in terms of well-formed containers, and no digit of a verdict is lost. Assumes nothing.
 use mathlib.Core.Path.{_≡_, refl, sym, ap, _∙_, subst}
-use mathlib.Core.List.{List}
+use mathlib.Core.List.{List, [], _∷_, _++_}
 use Prim.Native.Nat.{ℕ, _<_, _≤_}
 use native.Mathlib.Omega.{arith}
 use lib.Dec.{T, lit<}
@@ -11,7 +11,7 @@ use Rattle.record.specs.declared.instruction.Instruction.{Instruction}
 use Rattle.record.specs.declared.answer.Refusal.{Refusal}
 use Rattle.record.proofs.NumberedLaws.{Numbered}
 use Rattle.reader.specs.Reader.{read}
-use Rattle.reader.proofs.NumberedLaws.{read-numbers}
+use Rattle.reader.proofs.NumberedLaws.{read-numbers, read-places}
 use Rattle.container.specs.declared.header.Header.{Header}
 use Rattle.container.specs.Container.{most-instructions, count-of, words-of, eight}
 use Rattle.container.specs.Opening.{Rejection, open-outcome, Opens}
@@ -25,25 +25,31 @@ use Rattle.verifier.proofs.VerdictLaws.{first-refused}
 use Rattle.verifier.proofs.ReasonLaws.{reason}
 use Rattle.verifier.proofs.ReadLaws.{formed, all-of, goes-on}
 use Rattle.verifier.proofs.Demand3.{opening-of}
-use Rattle.listing.specs.Listing.{listing}
+use Rattle.verifier.specs.Passed.{Unreadable, PassedOn}
+use Rattle.verifier.proofs.PassedLaws.{of-words, passes-on}
+use Rattle.text.specs.Text.{space, line-feed, decimal}
+use Rattle.listing.specs.Listing.{refusal-fields, verdict-line, listing}
+use Rattle.listing.proofs.PlaceLaws.{line-placed, place-there, no-place}
 use Rattle.listing.specs.Asked.{Shown, ListedAsAsked}
 use Rattle.listing.proofs.NumberLaws.{opens, reads}
 use Rattle.listing.proofs.ListingLaws.{listing-read, listing-unread}
 
 -- the digits of a refusal, by its reason
 wrong-shown : (p : Program) → p .count ≤ most-instructions → {f : Finding} → Wrong p f → Shown f
-wrong-shown p h (entry-lacks r m) = record { number = lit< tt; index = lit< tt; register = omega (arith, m .is) }
-wrong-shown p h (annotation-lacks i r l m) = record { number = lit< tt; index = omega arith; register = omega (arith, m .is) }
-wrong-shown p h (runs-off i z l q o) = record { number = lit< tt; index = omega arith; register = lit< tt }
-wrong-shown p h (successor-lacks i j r l q b m) = record { number = lit< tt; index = omega arith; register = omega (arith, m .is) }
+wrong-shown p h (entry-lacks r m) = record { number = lit< tt; index = lit< tt; register = omega (arith, m .is); place = lit< tt }
+wrong-shown p h (annotation-lacks i r l m) = record { number = lit< tt; index = omega arith; register = omega (arith, m .is); place = lit< tt }
+wrong-shown p h (runs-off i z l q o) = record { number = lit< tt; index = omega arith; register = lit< tt; place = lit< tt }
+wrong-shown p h (successor-lacks i j r l q b m) = record { number = lit< tt; index = omega arith; register = omega (arith, m .is); place = lit< tt }
 
 unopened-shown : (o : Outcome Rejection Header) → Refusals Unopened o → {f : Finding} → judge-opening o ≡ refuses f → Shown f
 unopened-shown (gives h) p e = never (sym e)
-unopened-shown (refuses r) p e = subst Shown (told e) (record { number = omega (arith, p r refl .0 .1); index = lit< tt; register = lit< tt })
+unopened-shown (refuses r) p e = subst Shown (told e) (record { number = omega (arith, p r refl .0 .1); index = lit< tt; register = lit< tt; place = omega (arith, p r refl .1) })
 
-unread-shown : (i : ℕ) → i < 10000 → (o : Outcome Refusal Instruction) → Refusals (Numbered 1 7) o → {f : Finding} → judge-reading i o ≡ refuses f → Shown f
-unread-shown i h (gives x) p e = never (sym e)
-unread-shown i h (refuses g) p e = subst Shown (told e) (record { number = omega (arith, p g refl .1); index = h; register = lit< tt })
+unread-shown : (i : ℕ) → i < 10000 → (o : Outcome Refusal Instruction) → Refusals (Numbered 1 7) o → Refusals (λ (f : Refusal). f .place < 64) o
+    → {f : Finding} → judge-reading i o ≡ refuses f → Shown f
+unread-shown i h (gives x) p q e = never (sym e)
+unread-shown i h (refuses g) p q e =
+    subst Shown (told e) (record { number = omega (arith, p g refl .1); index = h; register = lit< tt; place = omega (arith, q g refl) })
 
 module _ (s : List ℕ) where
   few : Opens s → count-of s ≤ most-instructions
@@ -57,7 +63,8 @@ module _ (s : List ℕ) where
       go : (a : Judgement) → judge-opening (open-outcome s) ≡ a → (a then first (judge-word (words-of s)) (count-of s)) ≡ refuses f → Shown f
       go (gives tt) o q =
           let w = first-refused (judge-word (words-of s)) (count-of s) q in
-          unread-shown (w .0) (omega (arith, w .1, few (opening-of s o))) (read (eight (words-of s) (w .0))) (read-numbers (eight (words-of s) (w .0))) (w .2)
+          unread-shown (w .0) (omega (arith, w .1, few (opening-of s o))) (read (eight (words-of s) (w .0))) (read-numbers (eight (words-of s) (w .0)))
+          (read-places (eight (words-of s) (w .0))) (w .2)
       go (refuses g) o q = unopened-shown (open-outcome s) (open-numbers s) (o ∙ q)
 
   -- and after
@@ -80,10 +87,30 @@ module _ (s : List ℕ) where
       go (gives tt) q = absurd (n (formed s q))
       go (refuses f) q = (f, q)
 
+  -- a word that does not read
+  unformed : {f : Finding} → PassedOn (words-of s) (count-of s) f → ¬ WellFormed s
+  unformed {f} p w = never (sym (p .refused) ∙ w .reads (f .index) (p .is) .1)
+
+  passed : (f : Finding) → verdict-of s ≡ refuses f → Unreadable f
+      → PassedOn (words-of s) (count-of s) f × (listing s ≡ refusal-fields f ++ ((space ∷ decimal 2 (f .place)) ++ (line-feed ∷ [])))
+  passed f e u =
+      let p = of-words s f e u in
+      (p, listing-unread s (otherwise (unformed p) .1) ∙ ap verdict-line e ∙ line-placed f (sym (place-there f (u .0) (u .1))))
+
+  unplaced : (f : Finding) → verdict-of s ≡ refuses f → (¬ Unreadable f) → verdict-line (verdict-of s) ≡ refusal-fields f ++ (line-feed ∷ [])
+  unplaced f e n = ap verdict-line e ∙ line-placed f (no-place f n)
+
+  -- and is told with 2 to 7
+  numbered : Opens s → (¬ WellFormed s) → (f : Finding) → verdict-of s ≡ refuses f → Unreadable f
+  numbered = passes-on .numbered s
+
 pub listed-as-asked : (s : List ℕ) → T (areBytes s) → ListedAsAsked s (listing s)
 listed-as-asked s t = record {
   well-formed = λ f. listing-read s (all-of s f);
   few = λ f. few s (f .opens);
   otherwise = λ n. listing-unread s (otherwise s n .1);
+  unreadable = numbered s;
+  passed = passed s;
+  unplaced = unplaced s;
   shown = shown s t;
 }

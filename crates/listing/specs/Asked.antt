@@ -1,19 +1,23 @@
 -- What 01, The lister, asks of a listing, in terms of well-formed containers; and that no digit of a verdict is lost.
 use mathlib.Core.Path.{_≡_}
-use mathlib.Core.List.{List, _++_}
+use mathlib.Core.List.{List, [], _∷_, _++_}
 use Prim.Native.Nat.{ℕ, _<_, _≤_}
 use Rattle.bits.specs.Outcomes.{refuses}
 use Rattle.container.specs.Container.{most-instructions, count-of, words-of}
+use Rattle.container.specs.Opening.{Opens}
 use Rattle.verifier.specs.declared.verdict.Finding.{Finding}
 use Rattle.verifier.specs.Program.{WellFormed}
 use Rattle.verifier.specs.Verdict.{verdict-of}
-use Rattle.listing.specs.Listing.{lines, verdict-line}
+use Rattle.verifier.specs.Passed.{Unreadable, PassedOn}
+use Rattle.text.specs.Text.{space, line-feed, decimal}
+use Rattle.listing.specs.Listing.{lines, refusal-fields, verdict-line}
 
--- the digits of a refusal say its numbers whole: two for the number, four for the index, two for the register
+-- the digits of a refusal say its numbers whole: two for the number, four for the index, two for the register, two for the place
 pub record Shown (f : Finding) : Type 0 where
   pub number : f .number < 100
   pub index : f .index < 10000
   pub register : f .register < 100
+  pub place : f .place < 100
 
 -- of the bytes s and the text that is listed for them
 pub record ListedAsAsked (s text : List ℕ) : Type 0 where
@@ -23,4 +27,10 @@ pub record ListedAsAsked (s text : List ℕ) : Type 0 where
   pub few : WellFormed s → count-of s ≤ most-instructions
   -- of any other bytes the verdict alone
   pub otherwise : (¬ WellFormed s) → text ≡ verdict-line (verdict-of s)
+  -- where a word does not read (02, Item 5), the number is one of 2 to 7, and with these numbers the reader's own number and place are told, the
+  -- place as a fourth field; no other refusal has that
+  pub unreadable : Opens s → (¬ WellFormed s) → (f : Finding) → verdict-of s ≡ refuses f → Unreadable f
+  pub passed : (f : Finding) → verdict-of s ≡ refuses f → Unreadable f
+      → PassedOn (words-of s) (count-of s) f × (text ≡ refusal-fields f ++ ((space ∷ decimal 2 (f .place)) ++ (line-feed ∷ [])))
+  pub unplaced : (f : Finding) → verdict-of s ≡ refuses f → (¬ Unreadable f) → verdict-line (verdict-of s) ≡ refusal-fields f ++ (line-feed ∷ [])
   pub shown : (f : Finding) → verdict-of s ≡ refuses f → Shown f

@@ -1,4 +1,3 @@
 pub mod Listing
 pub mod Asked
 pub mod Cut
-pub mod Place

@@ -10,7 +10,6 @@ ghost use Rattle.text.specs.Text.{Put};
 ghost use Rattle.listing.specs.Listing.{verdict-line, listing, longest-listing};
 
 mod line;
-pub mod place;
 mod verdict;
 
 // The most bytes that the line of a verdict has.

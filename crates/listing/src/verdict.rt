@@ -5,18 +5,24 @@ use text::put::put_text;
 use verifier::verdict::Finding;
 use verifier::verdict::Verdict;
 ghost use mathlib.Core.Path.{_≡_};
+ghost use mathlib.Core.List.{[], _∷_, _++_};
 ghost use Prim.Native.Nat.{_≤_};
 ghost use lib.ListN.{length};
 ghost use Rattle.bits.specs.Outcomes.{refuses};
 ghost use Rattle.verifier.specs.Verdict.{verdict-outcome};
-ghost use Rattle.text.specs.Text.{Put};
-ghost use Rattle.listing.specs.Listing.{lists, verdict-line, longest-verdict};
+ghost use Rattle.text.specs.Text.{line-feed, Put};
+ghost use Rattle.listing.specs.Listing.{lists, place-field, verdict-line, longest-verdict};
 
 // The most bytes that the line of a verdict has.
-pub(crate) const LONGEST: usize = 7 + 1 + 2 + 1 + 4 + 1 + 2 + 1;
+pub(crate) const LONGEST: usize = 7 + 1 + 2 + 1 + 4 + 1 + 2 + 1 + 2 + 1;
 
 // The lowest number of a refusal that comes after all words were read.
 const WORDS_READ: u8 = 20;
+
+// The numbers of the refusals of a word that does not read.
+const FIRST_OF_READING: u8 = 2;
+
+const LAST_OF_READING: u8 = 7;
 
 // Whether a verdict comes after all words were read.
 pub(crate) fn all_read(v: Verdict) -> bool
@@ -28,7 +34,30 @@ pub(crate) fn all_read(v: Verdict) -> bool
     }
 }
 
-// Number, index, register.
+// The place, of a word that does not read.
+fn put_place(f: Finding, out: &mut [u8]) -> usize
+    requires { ⌜ 3 ≤ length (now out) ⌝ }
+    ensures { λ r. ⌜ Put (place-field f) (now (out .entry)) (now (out .exit)) r × (r ≤ 3) ⌝ }
+{
+    if f.number < FIRST_OF_READING {
+        return 0;
+    }
+    if LAST_OF_READING < f.number {
+        return 0;
+    }
+    put_spaced(f.place as u64, 10, 2, out)
+}
+
+// The end of a refusal's line: the place where there is that field, and the line feed.
+fn put_end(f: Finding, out: &mut [u8]) -> usize
+    requires { ⌜ 4 ≤ length (now out) ⌝ }
+    ensures { λ r. ⌜ Put (place-field f ++ (line-feed ∷ [])) (now (out .entry)) (now (out .exit)) r × (r ≤ 4) ⌝ }
+{
+    let at = put_place(f, out);
+    at + put_byte(b'\n', &mut out[at..])
+}
+
+// Number, index, register, and what ends the line.
 fn put_finding(f: Finding, out: &mut [u8]) -> usize
     requires { ⌜ longest-verdict ≤ length (now out) ⌝ }
     ensures { λ r. ⌜ Put (verdict-line (refuses f)) (now (out .entry)) (now (out .exit)) r × (r ≤ longest-verdict) ⌝ }
@@ -37,7 +66,7 @@ fn put_finding(f: Finding, out: &mut [u8]) -> usize
     at += put_spaced(f.number as u64, 10, 2, &mut out[at..]);
     at += put_spaced(f.index as u64, 10, 4, &mut out[at..]);
     at += put_spaced(f.register as u64, 10, 2, &mut out[at..]);
-    at += put_byte(b'\n', &mut out[at..]);
+    at += put_end(f, &mut out[at..]);
     at
 }
 

@@ -17,8 +17,6 @@ use infer::answer::Inference;
 use infer::infer;
 use input::Input;
 use listing::LONGEST_VERDICT;
-use listing::place::Place;
-use listing::place::place_of;
 use listing::write_verdict;
 use packing::pack;
 use verifier::verdict::Finding;
@@ -52,14 +50,6 @@ fn tell_number(before: &[u8], n: u64, after: &[u8]) {
     tell(after);
 }
 
-// Tells the place, where there is one.
-fn tell_place(place: Place) {
-    match place {
-        Place::At(p) => tell_number(b"maker: place ", p as u64, b"\n"),
-        Place::Nowhere => {}
-    }
-}
-
 // The one way to standard output: the text is the container that is made of what was read. It is written until all of it is, or until a
 // write fails.
 fn send(bytes: &[u8], input: Input, k: usize, text: &[u8]) -> bool
@@ -88,7 +78,6 @@ fn refuse(bytes: &[u8], input: Input, f: Finding)
     let mut line = [0u8; LONGEST_VERDICT];
     let n = write_verdict(v, &mut line);
     tell_verdict(bytes, input, f, &line[..n]);
-    tell_place(place_of(v));
 }
 
 // Packs what was proposed after k sweeps, and sends it.

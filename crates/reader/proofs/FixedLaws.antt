@@ -1,5 +1,5 @@
 -- A word agrees with the bits that its row fixes exactly if it has no stray bit. Assumes nothing.
-use mathlib.Core.Path.{_≡_, refl, sym, ap, _∙_, subst}
+use mathlib.Core.Path.{_≡_, refl, sym, ap, ap₂, _∙_, subst}
 use mathlib.Core.Bool.{Bool, true, false, _&&_, _||_, not}
 use Prim.Native.Nat.{ℕ, _+_, _-_, _/_, _%_, _^_, _<_}
 use native.Mathlib.Nat.{mod-lt, le-antisymm}
@@ -9,16 +9,16 @@ use lib.Dec.{T, eqb, ltb, leb}
 use lib.Pow.{pow-pos, shr-shr, field, mod-mod-pow}
 use borrow.Author.Tests.{ltb-true, leb-true}
 use Rattle.bits.specs.Fields.{Slot, slot, bits, choose, inside, assigned}
-use Rattle.bits.specs.Sets.{has}
+use Rattle.bits.specs.Sets.{has, minus, lowest}
 use Rattle.bits.proofs.Every.{iff, iff-eq, every, at, and-l, and-r, both, T-true, not-T, clash}
-use Rattle.bits.proofs.SetLaws.{has-both, has-true, true-has, member-below, subset-le}
+use Rattle.bits.proofs.SetLaws.{has-both, has-true, true-has, member-below, subset-le, lowest-ext, has-minus-test}
 use Rattle.rows.specs.Rows.{Row, rows, row-of, no-row, row-count}
 use Rattle.rows.specs.Layout.{places, slots, modifier-at, fits}
 use Rattle.rows.specs.served.Table.{set-of, upto, fixed-bit, fixed}
 use Rattle.rows.proofs.TableLaws.{in-table}
 use Rattle.rows.proofs.RowLaws.{opcode-there, second-there}
 use Rattle.rows.proofs.SetOfLaws.{has-set-of, upto-at, set-lt}
-use Rattle.reader.specs.Reader.{lowest-stray}
+use Rattle.reader.specs.Reader.{stray, lowest-stray}
 use Rattle.reader.proofs.StrayLaws.{stray-clean, clean-stray}
 
 -- ---- bits of numbers
@@ -100,12 +100,54 @@ module _ (k : ℕ) (h : k < row-count) where
     masked : (b : ℕ) → b < 64 → has (bitAnd w M) b ≡ has w b && fixed-bit r b
     masked b l = has-both w M b ∙ ap (λ (x : Bool). has w b && x) (has-set-of (fixed-bit r) 64 b l)
 
+    -- a bit of an opcode is in each word of the row what is expected; any other bit is expected to be 0
+    bit-fixed : fits r w ≡ true → (b : ℕ) → b < 64 → (inside (slot 48 9) b || inside (second-slot r) b) ≡ true → has w b ≡ expected r b
+    unfolding expected
+    bit-fixed f b l = go (inside (slot 48 9) b) refl (inside (second-slot (row-of k)) b) refl
+      where
+        go : (x : Bool) → inside (slot 48 9) b ≡ x → (y : Bool) → inside (second-slot (row-of k)) b ≡ y → x || y ≡ true
+            → has w b ≡ choose x (has (row-of k .opcode) (b - 48)) (choose y (has (row-of k .second) (b - row-of k .second-low)) false)
+        go true p y q e = slot-bit (slot 48 9) w b p ∙ ap (λ (o : ℕ). has o (b - 48)) (opcode-there (row-of k) w f)
+        go false p true q e = slot-bit (second-slot (row-of k)) w b q ∙ ap (λ (o : ℕ). has o (b - row-of k .second-low)) (second-there (row-of k) w f)
+        go false p false q e = clash (sym e)
+
+    unfixed : (b : ℕ) → (inside (slot 48 9) b || inside (second-slot r) b) ≡ false → expected r b ≡ false
+    unfolding expected
+    unfixed b e = go (inside (slot 48 9) b) (inside (second-slot (row-of k)) b) e
+      where
+        go : (x y : Bool) → x || y ≡ false → choose x (has (row-of k .opcode) (b - 48)) (choose y (has (row-of k .second) (b - row-of k .second-low)) false) ≡ false
+        go true y e = clash e
+        go false true e = clash e
+        go false false e = refl
+
+    -- the bits of such a word that the row fixes and that are not 1 by the row are the stray ones
+    left-over : fits r w ≡ true → (b : ℕ) → b < 64 → has (minus (bitAnd w M) (fixed r)) b ≡ stray k w b
+    left-over f b l =
+        has-minus-test (bitAnd w M) (fixed r) b
+        ∙ ap₂ (λ (x y : Bool). x && not y) (masked b l) (has-fixed b l)
+        ∙ go (has w b) refl (inside (slot 48 9) b || inside (second-slot (row-of k)) b) refl (assigned (slots (row-of k)) b) refl
+      where
+        owned : expected (row-of k) b ≡ true → assigned (slots (row-of k)) b ≡ false → ⊥
+        owned e q = clash (sym e ∙ unassigned-0 b l q)
+
+        go : (x : Bool) → has w b ≡ x → (y : Bool) → (inside (slot 48 9) b || inside (second-slot (row-of k)) b) ≡ y → (z : Bool) → assigned (slots (row-of k)) b ≡ z
+            → ((has w b && (not (assigned (slots (row-of k)) b) || (inside (slot 48 9) b || inside (second-slot (row-of k)) b))) && not (expected (row-of k) b))
+            ≡ (has w b && not (assigned (slots (row-of k)) b))
+        go false p y q z s = rw p
+        go true p true q true s = rw (p, q, s, sym (bit-fixed f b l q) ∙ p)
+        go true p true q false s = absurd (owned (sym (bit-fixed f b l q) ∙ p) s)
+        go true p false q true s = rw (p, q, s)
+        go true p false q false s = rw (p, q, s, unfixed b q)
+
+    pub stray-among : fits r w ≡ true → lowest (minus (bitAnd w M) (fixed r)) ≡ lowest-stray k w
+    unfolding lowest-stray
+    stray-among f = lowest-ext (has (minus (bitAnd w M) (fixed (row-of k)))) (stray k w) 64 0 (λ b l. left-over f b l)
+
     -- a word of the row that has no stray bit agrees
     pub agrees : fits r w ≡ true → lowest-stray k w ≡ 64 → bitAnd w M ≡ fixed r
-    unfolding expected
     agrees f e =
         same-bits (bitAnd w M) (fixed r) (and-lt 64 w M hw (set-lt (fixed-bit r) 64)) fixed-lt
-        (λ b l. masked b l ∙ bit b l (inside (slot 48 9) b) refl (inside (second-slot r) b) refl (assigned (slots r) b) refl ∙ sym (has-fixed b l))
+        (λ b l. masked b l ∙ bit b l (inside (slot 48 9) b || inside (second-slot r) b) refl (assigned (slots r) b) refl ∙ sym (has-fixed b l))
       where
         and-true : (t : Bool) → t && true ≡ t
         and-true true = refl
@@ -119,16 +161,11 @@ module _ (k : ℕ) (h : k < row-count) where
         or-true true = refl
         or-true false = refl
 
-        bit : (b : ℕ) → b < 64 → (x : Bool) → inside (slot 48 9) b ≡ x → (y : Bool) → inside (second-slot (row-of k)) b ≡ y → (z : Bool) → assigned (slots (row-of k)) b ≡ z
-            → has w b && fixed-bit (row-of k) b ≡ expected (row-of k) b
-        bit b l true p y q z s =
-            rw (p, or-true (not (assigned (slots (row-of k)) b)), and-true (has w b))
-            (slot-bit (slot 48 9) w b p ∙ ap (λ (o : ℕ). has o (b - 48)) (opcode-there (row-of k) w f))
-        bit b l false p true q z s =
-            rw (p, q, or-true (not (assigned (slots (row-of k)) b)), and-true (has w b))
-            (slot-bit (second-slot (row-of k)) w b q ∙ ap (λ (o : ℕ). has o (b - row-of k .second-low)) (second-there (row-of k) w f))
-        bit b l false p false q true s = rw (p, q, s) (and-false (has w b))
-        bit b l false p false q false s = rw (p, q, s) (and-true (has w b) ∙ ap (λ (x : ℕ). eqb x 1) (stray-clean k w e b l s))
+        bit : (b : ℕ) → b < 64 → (y : Bool) → (inside (slot 48 9) b || inside (second-slot (row-of k)) b) ≡ y → (z : Bool) → assigned (slots (row-of k)) b ≡ z
+            → has w b && (not (assigned (slots (row-of k)) b) || (inside (slot 48 9) b || inside (second-slot (row-of k)) b)) ≡ expected (row-of k) b
+        bit b l true q z s = rw (q, or-true (not (assigned (slots (row-of k)) b)), and-true (has w b)) (bit-fixed f b l q)
+        bit b l false q true s = rw (q, s) (and-false (has w b) ∙ sym (unfixed b q))
+        bit b l false q false s = rw (q, s) (and-true (has w b) ∙ ap (λ (x : ℕ). eqb x 1) (stray-clean k w e b l s) ∙ sym (unfixed b q))
 
     -- a word that agrees has no stray bit
     pub unstray : bitAnd w M ≡ fixed r → lowest-stray k w ≡ 64

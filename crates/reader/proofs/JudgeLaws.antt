@@ -10,7 +10,7 @@ use lib.Dec.{T, eqb, ltb, leb, eqb→eq}
 use lib.Pow.{pow-pos}
 use borrow.Author.Tests.{lt-ltb, le-leb, lt-leb, eq-eqb, ne-eqb, ltb-true, ltb-false}
 use Rattle.bits.specs.Fields.{bits, choose, assigned}
-use Rattle.bits.specs.Sets.{has}
+use Rattle.bits.specs.Sets.{has, minus, lowest}
 use Rattle.bits.specs.Outcomes.{Outcome, gives, refuses, require, _then_}
 use Rattle.bits.proofs.Every.{every, at, and-l, and-r, clash}
 use Rattle.rows.specs.Kinds.{Kind, flow, register, half-mask, legal-value, width}
@@ -31,13 +31,13 @@ use Rattle.lookup.specs.served.Lines.{line-of}
 use Rattle.lookup.specs.declared.Line.{Line}
 use Rattle.lookup.proofs.OpcodeLaws.{found-among}
 use Rattle.reader.specs.Reader.{lowest-stray, read-row, read-number}
-use Rattle.reader.specs.served.Judge.{refused, fit-of, Known, Fitted, Judges, judged-sources}
+use Rattle.reader.specs.served.Judge.{refused, refusal-of, fit-of, Known, Fitted, Judges, judged-sources}
 use Rattle.reader.specs.served.Windows.{modifiers-ok, refused-modifier}
 use Rattle.reader.specs.declared.judge.Fit.{Fit}
 use Rattle.reader.specs.declared.judge.Judged.{Judged}
 use Rattle.reader.specs.declared.judge.Judged.the-variants.{Fits}
 use Rattle.reader.proofs.StrayLaws.{stray-le}
-use Rattle.reader.proofs.FixedLaws.{agrees, unstray}
+use Rattle.reader.proofs.FixedLaws.{stray-among, agrees, unstray}
 use Rattle.reader.proofs.WindowLaws.{window-26, lower-26, window-36, lower-36, pair-8, pairs-none, modifiers-so, flow-so, mask-so, window}
 use Rattle.reader.proofs.SourceBytes.{sources-so, low-legal}
 
@@ -172,16 +172,16 @@ module _ (w k : ℕ) (ek : find rows 0 w ≡ k) (h : k < row-count) (clean : low
   unfolding read-row judge _then_
   whole =
       ap (λ (n : ℕ). read-row n w) ek
-      ∙ first (ltb k row-count) (lt-ltb k row-count h) (leb 64 (lowest-stray k w)) (le-leb 64 (lowest-stray k w) (omega (arith, clean)))
+      ∙ first _ (ltb k row-count) (lt-ltb k row-count h) (leb 64 (lowest-stray k w)) (le-leb 64 (lowest-stray k w) (omega (arith, clean)))
     where
-      first : (a : Bool) → a ≡ true → (b : Bool) → b ≡ true
-          → (require a (refusal 2 0) then (require b (refusal 3 0) then ((require flow-ok (refusal 4 0) then (require mask-ok (refusal 5 0) then (modifiers-part then sources-part))) then gives i)))
+      first : (r₃ : Refusal) (a : Bool) → a ≡ true → (b : Bool) → b ≡ true
+          → (require a (refusal 2 0) then (require b r₃ then ((require flow-ok (refusal 4 0) then (require mask-ok (refusal 5 0) then (modifiers-part then sources-part))) then gives i)))
           ≡ (require flow-ok (refusal 4 0) then require mask-ok (refusal 5 0) then (modifiers-part then (sources-part then gives i)))
-      first true p true q =
+      first r₃ true p true q =
           then-assoc (require flow-ok (refusal 4 0)) _ (gives i)
           ∙ ap (λ (z : Result). require flow-ok (refusal 4 0) then z) (then-assoc (require mask-ok (refusal 5 0)) _ (gives i) ∙ ap (λ (z : Result). require mask-ok (refusal 5 0) then z) (then-assoc modifiers-part sources-part (gives i)))
-      first true p false q = clash (sym q)
-      first false p b q = clash (sym p)
+      first r₃ true p false q = clash (sym q)
+      first r₃ false p b q = clash (sym p)
 
   pub stop-flow : {x : Bool} → x ≡ has 43007 (bits w 59 4) → x ≡ false → Judges w (refused 4 0)
   unfolding _then_
@@ -246,6 +246,17 @@ module _ (w k : ℕ) (ek : find rows 0 w ≡ k) (h : k < row-count) (clean : low
         unfolding judged-sources
         by-sources = sourced w k (fit-of k w) n (q 0) (q 1) (q 2) (q 3) last
 
+-- ---- the refusal that a judgement's number stands for
+
+told-as : (n p : ℕ) → n < 256 → p < 256 → refusal n p ≡ refusal-of (n + 256 * p)
+told-as n p l h = λ j. record { number = number j; place = place j }
+  where
+    number : n ≡ bits (n + 256 * p) 0 8
+    number = omega arith
+
+    place : p ≡ bits (n + 256 * p) 8 8
+    place = omega arith
+
 -- ---- the line that is found
 
 module _ (w : ℕ) where
@@ -303,10 +314,17 @@ module _ (w : ℕ) (hw : w < 2 ^ 64) (l : Line) (fl : Fitted w l) where
   ok-same : modifiers-ok (l .limits) (l .pairs) w ≡ modifiers-ok (limits (row-of (find rows 0 w))) (pairs (row-of (find rows 0 w))) w
   ok-same = ap₂ (λ (a b : ℕ). modifiers-ok a b w) limits-there pairs-there
 
-  -- a word that disagrees with its line has a stray bit: 3
-  pub stray-there : (bitAnd w (l .«fixed_bits») ≡ l .fixed → ⊥) → Judges w (refused 3 0)
+  -- what the line leaves over of the word are its stray bits
+  pub left-over : lowest (minus (bitAnd w (l .«fixed_bits»)) (l .fixed)) ≡ lowest-stray (find rows 0 w) w
+  left-over =
+      ap₂ (λ (a b : ℕ). lowest (minus (bitAnd w a) b)) bits-there fixed-there
+      ∙ stray-among (find rows 0 w) (fl .in-table) w hw (find-fits w (fl .in-table))
+
+  -- a word that disagrees with its line has a stray bit: 3, with the lowest
+  pub stray-there : (bitAnd w (l .«fixed_bits») ≡ l .fixed → ⊥) → Judges w (refused 3 (lowest-stray (find rows 0 w) w))
   unfolding read-row _then_
-  stray-there n = rw (lt-ltb k′ row-count (fl .in-table), lt-leb 64 (lowest-stray k′ w) stray-lt)
+  stray-there n =
+      rw (lt-ltb k′ row-count (fl .in-table), lt-leb 64 (lowest-stray k′ w) stray-lt) (ap refuses (told-as 3 (lowest-stray k′ w) (omega arith) (omega (arith, stray-lt))))
     where
       stray-lt : lowest-stray (find rows 0 w) w < 64
       stray-lt = go (ltb (lowest-stray (find rows 0 w) w) 64) refl

@@ -6,3 +6,4 @@ pub mod SourceBytes
 pub mod JudgeLaws
 pub mod KnownLaws
 pub mod NumberedLaws
+pub mod StrayNamed

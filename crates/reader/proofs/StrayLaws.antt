@@ -1,5 +1,5 @@
 -- The stray bits of a word: those that its row leaves unassigned. Assumes nothing.
-use mathlib.Core.Path.{_≡_, refl, ap, _∙_}
+use mathlib.Core.Path.{_≡_, refl, _∙_}
 use mathlib.Core.Bool.{Bool, true, false, _&&_, not}
 use Prim.Native.Nat.{ℕ, _/_, _^_, _≤_, _<_}
 use native.Mathlib.Nat.{mod-lt, lt-of-lt-of-le, div-eq-of-lt, zero-add}
@@ -7,10 +7,10 @@ use native.Mathlib.Omega.{arith}
 use lib.Dec.{ltb, eqb}
 use lib.Pow.{pow-pos, pow-mono}
 use borrow.Author.Tests.{ne-eqb, eqb-false, ltb-true, ltb-false}
-use Rattle.bits.specs.Fields.{bits, split, join, assigned, mask}
-use Rattle.bits.specs.Sets.{has, minus, lowest}
-use Rattle.bits.proofs.FieldLaws.{join-split, mask-has}
-use Rattle.bits.proofs.SetLaws.{lowest-ext, lowest-le, lowest-below, lowest-none, has-minus-test}
+use Rattle.bits.specs.Fields.{bits, split, join, assigned}
+use Rattle.bits.specs.Sets.{has}
+use Rattle.bits.proofs.FieldLaws.{join-split}
+use Rattle.bits.proofs.SetLaws.{lowest-le, lowest-below, lowest-none}
 use Rattle.rows.specs.Rows.{row-of, row-count}
 use Rattle.rows.specs.Layout.{slots}
 use Rattle.rows.proofs.RowLaws.{row-apart}
@@ -55,10 +55,3 @@ module _ (k w : ℕ) where
       low : (b : ℕ) → assigned (slots (row-of k)) b ≡ false → (t : Bool) → ltb b 64 ≡ t → bits w b 1 ≡ 0
       low b q true z = stray-clean e b (ltb-true b 64 z) q
       low b q false z = rw (div-eq-of-lt (lt-of-lt-of-le hw (pow-mono (ltb-false b 64 z))))
-
-  -- the row's mask has the assigned bits
-  pub stray-eq : k < row-count → lowest (minus w (mask (slots (row-of k)))) ≡ lowest-stray k w
-  unfolding lowest-stray
-  stray-eq h =
-      lowest-ext (has (minus w (mask (slots (row-of k))))) (stray k w) 64 0
-      (λ b l. has-minus-test w (mask (slots (row-of k))) b ∙ ap (λ (t : Bool). has w b && not t) (mask-has (slots (row-of k)) b (row-apart k h)))

@@ -24,11 +24,12 @@ stray k w b = has w b && not (assigned (slots (row-of k)) b)
 unfoldable pub lowest-stray : ℕ → ℕ → ℕ
 lowest-stray k w = lowest-from (stray k w) 64 0
 
--- what a word says, if k is the number of the row that it fits: 2 where none does, 3 for a stray bit, then 4 to 7
+-- what a word says, if k is the number of the row that it fits: 2 where none does, 3 for a stray bit, whose place is the lowest such bit
+-- (02, Item 5), then 4 to 7
 unfoldable pub read-row : ℕ → ℕ → Outcome Refusal Instruction
 read-row k w =
     require (ltb k row-count) (refusal 2 0)
-    then require (leb 64 (lowest-stray k w)) (refusal 3 0)
+    then require (leb 64 (lowest-stray k w)) (refusal 3 (lowest-stray k w))
     then judge (row-of k) (instruction-of k w)
     then gives (instruction-of k w)
 

@@ -5,9 +5,14 @@ ghost use Prim.Native.Nat.{ℕ, _+_, _*_, _/_, _<_};
 ghost use lib.Bits.{bitAnd};
 ghost use Rattle.bits.specs.Fields.{bits};
 ghost use Rattle.bits.specs.Sets.{has};
+ghost use Rattle.rows.specs.Rows.{rows};
+ghost use Rattle.rows.specs.Layout.{find};
+ghost use Rattle.reader.specs.Reader.{lowest-stray};
 ghost use Rattle.reader.specs.served.Judge.{refused, refusal-of, judged-sources, Fitted, Judges};
 ghost use Rattle.reader.specs.served.Windows.{modifiers-ok, refused-modifier};
 use bits::fields::bits_at;
+use bits::sets::lowest;
+use bits::sets::missing;
 use lookup::Found;
 use lookup::Line;
 use lookup::line_of;
@@ -147,6 +152,15 @@ fn judge_fields(l: Line, w: u64) -> Judged
     judge_sources(f, w)
 }
 
+// The lowest bit of a word that is 1 and that its row leaves unassigned: among the bits that the row fixes, the lowest that is 1 in the word and
+// not in the row. It is asked only where there is one.
+fn lowest_stray(l: Line, w: u64) -> u8
+    requires { ⌜ Fitted w l ⌝ }
+    ensures { λ b. ⌜ b ≡ lowest-stray (find rows 0 w) w ⌝ }
+{
+    lowest(missing(w & l.fixed_bits, l.fixed)) as u8
+}
+
 // What a word gets: the first of the refusals 2 to 7, or what is known of it.
 pub fn judge_word(w: u64) -> Judged
     ensures { λ r. ⌜ Judges w r ⌝ }
@@ -156,7 +170,7 @@ pub fn judge_word(w: u64) -> Judged
             if w & l.fixed_bits == l.fixed {
                 return judge_fields(l, w);
             }
-            refuse(3, 0)
+            refuse(3, lowest_stray(l, w))
         }
         Found::None => refuse(2, 0),
     }

@@ -6,4 +6,5 @@ pub mod Demand3
 pub mod ReasonLaws
 pub mod LazyChecks
 pub mod NumberedLaws
+pub mod PassedLaws
 pub mod ReadLaws

@@ -59,11 +59,15 @@ unfolding first
 first-to f zero h = refl
 first-to f (suc n) h = neither (first-to f n (λ i l. h i (omega arith))) (h n (omega arith))
 
-pub first-refused : (f : ℕ → Judgement) (n : ℕ) {r : Finding} → first f n ≡ refuses r → (i : ℕ) × (i < n) × (f i ≡ refuses r)
-unfolding first
+pub first-refused : (f : ℕ → Judgement) (n : ℕ) {r : Finding} → first f n ≡ refuses r → (i : ℕ) × (i < n) × (f i ≡ refuses r) × (first f i ≡ passes)
+unfolding first _then_
 first-refused f zero e = never (sym e)
-first-refused f (suc n) e =
-    ⊎-elim (λ p. let s = first-refused f n p in (s .0, omega (arith, s .1), s .2)) (λ p. (n, omega arith, p)) (either (first f n) (f n) e)
+first-refused f (suc n) {r} e = go (first f n) refl (λ p. first-refused f n p) e
+  where
+    go : (a : Judgement) → first f n ≡ a → (first f n ≡ refuses r → (i : ℕ) × (i < n) × (f i ≡ refuses r) × (first f i ≡ passes))
+        → (a then f n) ≡ refuses r → (i : ℕ) × (i < suc n) × (f i ≡ refuses r) × (first f i ≡ passes)
+    go (gives tt) p h q = (n, omega arith, q, p)
+    go (refuses g) p h q = let s = h (p ∙ q) in (s .0, omega (arith, s .1), s .2, s .3)
 
 pub first-more : (f : ℕ → Judgement) (i : ℕ) → first f i ≡ passes → f i ≡ passes → first f (i + 1) ≡ passes
 unfolding first

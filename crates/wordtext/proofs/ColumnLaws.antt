@@ -15,7 +15,7 @@ use Rattle.record.specs.Registers.{ends, branches}
 use Rattle.text.specs.Text.{decimal, number-text, Put}
 use Rattle.text.proofs.TextLaws.{put-nothing}
 use Rattle.leftout.specs.LeftOut.{left-out}
-use Rattle.wordtext.specs.Columns.{jumps, lands, arrow-text, omitted-text, reason-text}
+use Rattle.wordtext.specs.Columns.{jumps, lands, arrow-text, omitted-text, stray-text, reason-text}
 
 -- a branch, and no `end`
 pub both : {a b c : Bool} → a ≡ true → c ≡ b → not c ≡ (a && not b)
@@ -54,7 +54,7 @@ module _ (w n p : ℕ) where
   no-row-fits e = rw (eq-eqb n 2 e)
 
   module _ (a : n ≡ 2 → ⊥) where
-    pub stray : n ≡ 3 → ascii "a bit is 1 that it has no use for" ≡ reason-text w n p
+    pub stray : n ≡ 3 → stray-text w p ≡ reason-text w n p
     unfolding reason-text
     stray e = rw (ne-eqb n 2 a, eq-eqb n 3 e)
 

@@ -1,4 +1,5 @@
 // What stands for a word: the text of its instruction, or why it does not read.
+use crate::stray::put_stray;
 use disasm::put_instruction;
 use leftout::put_left_out;
 use reader::answer::Reading;
@@ -19,7 +20,7 @@ ghost use Rattle.rows.specs.Names.{ascii};
 ghost use Rattle.text.specs.Text.{Put};
 ghost use Rattle.leftout.specs.Omitted.{longest-omitted};
 ghost use Rattle.leftout.specs.LeftOut.{left-out};
-ghost use Rattle.wordtext.specs.Columns.{jumps, lands, arrow-text, omitted-text, reason-text, column-in, column-of, longest-column};
+ghost use Rattle.wordtext.specs.Columns.{jumps, lands, arrow-text, omitted-text, reason-text, longest-reason, column-in, column-of, longest-column};
 
 // The most bytes that it has.
 pub const LONGEST: usize = disasm::LONGEST + ARROW;
@@ -100,14 +101,14 @@ fn put_no_row(w: u64, out: &mut [u8]) -> usize
 
 // Why a word is refused with a number at a place.
 fn put_reason(w: u64, number: u8, place: u8, out: &mut [u8]) -> usize
-    requires { ⌜ longest-omitted + 36 ≤ length (now out) ⌝ }
-    ensures { λ r. ⌜ Put (reason-text w number place) (now (out .entry)) (now (out .exit)) r × (r ≤ longest-omitted + 36) ⌝ }
+    requires { ⌜ longest-reason ≤ length (now out) ⌝ }
+    ensures { λ r. ⌜ Put (reason-text w number place) (now (out .entry)) (now (out .exit)) r × (r ≤ longest-reason) ⌝ }
 {
     if number == NO_ROW {
         return put_no_row(w, out);
     }
     if number == STRAY_BIT {
-        return put_text(b"a bit is 1 that it has no use for", out);
+        return put_stray(w, place, out);
     }
     if number == RESERVED_FLOW {
         return put_text(b"its flow is reserved", out);

@@ -214,12 +214,12 @@ parsed bs i e =
     let k = find rows 0 w in
     let a = then-gives (require (eqb (length bs) 8) (refusal 1 0)) (read-row k w) i e in
     let b = then-gives (require (ltb k row-count) (refusal 2 0)) _ i (a .1) in
-    let c = then-gives (require (leb 64 (lowest-stray k w)) (refusal 3 0)) _ i (b .1) in
+    let c = then-gives (require (leb 64 (lowest-stray k w)) (refusal 3 (lowest-stray k w))) _ i (b .1) in
     let d = then-gives (judge (row-of k) (instruction-of k w)) (gives (instruction-of k w)) i (c .1) in
     record {
       eight = eqb-true _ _ (required _ (refusal 1 0) (a .0));
       row = ltb-true _ _ (required _ (refusal 2 0) (b .0));
-      clean = omega (arith, stray-le k w, leb-true 64 (lowest-stray k w) (required _ (refusal 3 0) (c .0)));
+      clean = omega (arith, stray-le k w, leb-true 64 (lowest-stray k w) (required _ (refusal 3 (lowest-stray k w)) (c .0)));
       legal = d .0;
       same = given-eq (d .1);
     }

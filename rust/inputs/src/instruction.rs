@@ -125,7 +125,8 @@ fn spoil(rng: &mut Rng, number: u8, legal: Instruction) -> Option<(u64, Refusal)
         2 => return Some((other_opcode(rng, pack(&legal)), Refusal::NoRow)),
         3 => {
             let stray = rng.member(!assigned(row));
-            return Some((pack(&legal) | stray, Refusal::UnassignedBit)).filter(|(word, _)| same_row(*word, legal.row));
+            let refusal = Refusal::UnassignedBit(stray.trailing_zeros() as u8);
+            return Some((pack(&legal) | stray, refusal)).filter(|(word, _)| same_row(*word, legal.row));
         }
         4 => {
             wrong.flow = rng.pick(&RESERVED_FLOWS);

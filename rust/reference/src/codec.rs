@@ -76,8 +76,9 @@ pub fn fresh(row: u64) -> Result<Instruction, Refusal> {
 #[inline(always)]
 pub(crate) fn validate(word: u64) -> Result<&'static Layout, Refusal> {
     let layout = find(word).ok_or(Refusal::NoRow)?;
-    if word & !layout.assigned != 0 {
-        return Err(Refusal::UnassignedBit);
+    let stray = word & !layout.assigned;
+    if stray != 0 {
+        return Err(Refusal::UnassignedBit(stray.trailing_zeros() as u8));
     }
     legal(word, layout)?;
     Ok(layout)

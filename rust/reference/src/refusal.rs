@@ -6,8 +6,8 @@ pub enum Refusal {
     WordLength,
     /// No row fits the word, or the row number is over 76.
     NoRow,
-    /// A bit that no field of the row owns is 1.
-    UnassignedBit,
+    /// A bit that no field of the row owns is 1: the lowest such bit.
+    UnassignedBit(u8),
     ReservedFlow,
     /// A destination with half mask 0.
     EmptyHalfMask,
@@ -46,7 +46,7 @@ impl Refusal {
         match self {
             Refusal::WordLength => 1,
             Refusal::NoRow => 2,
-            Refusal::UnassignedBit => 3,
+            Refusal::UnassignedBit(_) => 3,
             Refusal::ReservedFlow => 4,
             Refusal::EmptyHalfMask => 5,
             Refusal::Modifier(_) => 6,
@@ -69,6 +69,7 @@ impl Refusal {
     /// The paper's place; 0 for the refusals without one.
     pub const fn place(self) -> u8 {
         match self {
+            Refusal::UnassignedBit(bit) => bit,
             Refusal::Modifier(lowest_bit) => lowest_bit,
             Refusal::Source(index) => index,
             _ => 0,

@@ -80,13 +80,13 @@ fn words_that_read() {
 #[test]
 fn words_that_are_refused() {
     let examples = [
-        (0x8000_0000_0000_0000, Refusal::UnassignedBit),
+        (0x8000_0000_0000_0000, Refusal::UnassignedBit(63)),
         (0x0091_C100_0001_0002, Refusal::NoRow),
         (0x5891_C100_0000_0002, Refusal::ReservedFlow),
         (0x00F0_C006_0002_0100, Refusal::Modifier(32)),
         (0x0091_C100_0000_00E0, Refusal::Source(0)),
         (0x0091_C100_0000_00E2, Refusal::Source(0)),
-        (0x0091_C100_0000_0102, Refusal::UnassignedBit),
+        (0x0091_C100_0000_0102, Refusal::UnassignedBit(8)),
         (0x0091_0100_0000_0002, Refusal::EmptyHalfMask),
     ];
     for (word, refusal) in examples {
@@ -313,7 +313,7 @@ fn verdicts() {
         (R4, &[no_successor], &[0], refused(Refusal::UnheldRead, 0, 4)),
         // An unreadable word comes before 23 and 20, the lowest one first.
         (0, &[A, bad, bad], &[R1, 0, 0], refused(Refusal::Modifier(32), 1, 64)),
-        (0, &[A, B, 1 << 63], &[0, 0, 0], refused(Refusal::UnassignedBit, 2, 64)),
+        (0, &[A, B, 1 << 63], &[0, 0, 0], refused(Refusal::UnassignedBit(63), 2, 64)),
         // Unreachable instructions are checked too.
         (R2, &[B, A], &[0, R2], refused(Refusal::LeavesProgram, 1, 64)),
     ];
@@ -430,9 +430,9 @@ fn comparisons_that_are_refused() {
     let good = parcel(0, &[A, B], &[0, 0]);
     let stray = parcel(0, &[A, 1 << 63, 0x0091_C100_0000_00E0], &[0; 3]);
     let unread = |side, refusal, index| Err(Unread { side, refusal, index });
-    assert_eq!(differences(&good, &stray), unread(Side::Second, Refusal::UnassignedBit, 1));
-    assert_eq!(differences(&stray, &good), unread(Side::First, Refusal::UnassignedBit, 1));
-    assert_eq!(differences(&stray, &good[..15]), unread(Side::First, Refusal::UnassignedBit, 1));
+    assert_eq!(differences(&good, &stray), unread(Side::Second, Refusal::UnassignedBit(63), 1));
+    assert_eq!(differences(&stray, &good), unread(Side::First, Refusal::UnassignedBit(63), 1));
+    assert_eq!(differences(&stray, &good[..15]), unread(Side::First, Refusal::UnassignedBit(63), 1));
     assert_eq!(differences(&good[..15], &stray), unread(Side::First, Refusal::Size, 0));
     assert_eq!(differences(&good, &good[1..]), unread(Side::Second, Refusal::Mark, 0));
 }
@@ -442,7 +442,7 @@ fn numbers_and_places() {
     let refusals = [
         (Refusal::WordLength, 1, 0),
         (Refusal::NoRow, 2, 0),
-        (Refusal::UnassignedBit, 3, 0),
+        (Refusal::UnassignedBit(40), 3, 40),
         (Refusal::ReservedFlow, 4, 0),
         (Refusal::EmptyHalfMask, 5, 0),
         (Refusal::Modifier(37), 6, 37),

@@ -26,6 +26,9 @@ tell-refusal-requires : tie.Need-tell-refusal-requires
 unfolding ascii
 tell-refusal-requires c κs = (c .before .before .before .before .before .before .before .before .pre .0, c .before .before .before .before .before .before .before .before .pre .1, ap side-line (sym (c .before .before .enum-told .given .1)), put-front (c .before .before .before .before .write-verdict .ensures))
 
+returns : tie.Need-returns
+returns c = search needs
+
 enum-told-2 : tie.Need-enum-told-2
 enum-told-2 c = search needs
 
@@ -42,14 +45,8 @@ tell-refusal-requires-2 : tie.Need-tell-refusal-requires-2
 unfolding ascii
 tell-refusal-requires-2 c κs = (c .before .before .before .before .before .before .before .before .pre .0, c .before .before .before .before .before .before .before .before .pre .1, ap side-line (sym (c .before .before .enum-told2 .given .1)), put-front (c .before .before .before .before .write-verdict .ensures))
 
-place-of-requires : tie.Need-place-of-requires
-place-of-requires c κs = search needs
-
-tell-place-requires : tie.Need-tell-place-requires
-tell-place-requires c κs = search needs
-
-returns : tie.Need-returns
-returns c = search needs
+returns-2 : tie.Need-returns-2
+returns-2 c = search needs
 
 pub refuse-spec : {M : Type 1} → statement M
 refuse-spec =
@@ -66,6 +63,5 @@ refuse-spec =
     array-share-prefix-line-2
     slice-aggregate-tell-refusal-4
     tell-refusal-requires-2
-    place-of-requires
-    tell-place-requires
-    returns)
+    returns
+    returns-2)

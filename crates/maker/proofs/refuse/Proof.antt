@@ -17,12 +17,6 @@ slice-aggregate-tell-verdict c = sym (length-take-le _ _ (put-room (c .before .w
 tell-verdict-requires : tie.Need-tell-verdict-requires
 tell-verdict-requires c κs = (search needs, search needs, put-front (c .before .write-verdict .ensures))
 
-place-of-requires : tie.Need-place-of-requires
-place-of-requires c κs = search needs
-
-tell-place-requires : tie.Need-tell-place-requires
-tell-place-requires c κs = search needs
-
 returns : tie.Need-returns
 returns c = search needs
 
@@ -34,6 +28,4 @@ refuse-spec =
     array-share-prefix-line
     slice-aggregate-tell-verdict
     tell-verdict-requires
-    place-of-requires
-    tell-place-requires
     returns)

@@ -1,7 +1,7 @@
-use native.Mathlib.Omega.{arith}
-use Rattle.rows.specs.Names.{ascii}
-use Rattle.listing.specs.Listing.{verdict-line}
 use Rattle.text.proofs.TextLaws.{put-next}
+use Rattle.listing.specs.Listing.{verdict-line}
+use Rattle.rows.specs.Names.{ascii}
+use native.Mathlib.Omega.{arith}
 use borrow.Author.Needs.{needs}
 use Rattle.listing.proofs.verdict.put_finding.Statement.{statement}
 use Rattle.listing.proofs.verdict.put_finding.Tie as tie
@@ -63,17 +63,17 @@ put-spaced-requires-3 c κs = search needs
 add-at-3 : tie.Need-add-at-3
 add-at-3 c = search needs
 
-sub-put-byte : tie.Need-sub-put-byte
-sub-put-byte c = search needs
+sub-put-end : tie.Need-sub-put-end
+sub-put-end c = search needs
 
-part-put-byte-start : tie.Need-part-put-byte-start
-part-put-byte-start c = search needs
+part-put-end-start : tie.Need-part-put-end-start
+part-put-end-start c = search needs
 
-part-put-byte-end : tie.Need-part-put-byte-end
-part-put-byte-end c = search needs
+part-put-end-end : tie.Need-part-put-end-end
+part-put-end-end c = search needs
 
-put-byte-requires : tie.Need-put-byte-requires
-put-byte-requires c κs = search needs
+put-end-requires : tie.Need-put-end-requires
+put-end-requires c κs = search needs
 
 add-at-4 : tie.Need-add-at-4
 add-at-4 c = search needs
@@ -90,8 +90,8 @@ returns c = (
       (put-next (c .before .before .before .before .before .before .before .before .before .before .before .before .before .before .before .before .before .before .before .before .put-text .ensures) (c .before .before .before .before .before .before .before .before .before .before .before .before .before .before .before .put-spaced .ensures .0))
       (c .before .before .before .before .before .before .before .before .before .before .before .put-spaced2 .ensures .0))
       (c .before .before .before .before .before .before .put-spaced3 .ensures .0))
-      (c .before .before .put-byte .ensures),
-  omega arith,
+      (c .before .before .put-end .ensures .0),
+  omega (arith, c .before .before .put-end .ensures .1),
 )
 
 pub put-finding-spec : {M : Type 1} → statement M
@@ -117,10 +117,10 @@ put-finding-spec =
     part-put-spaced-end-3
     put-spaced-requires-3
     add-at-3
-    sub-put-byte
-    part-put-byte-start
-    part-put-byte-end
-    put-byte-requires
+    sub-put-end
+    part-put-end-start
+    part-put-end-end
+    put-end-requires
     add-at-4
     same-length
     returns)

@@ -1,10 +1,10 @@
-use mathlib.Core.Path.{_≡_, sym, subst}
+use mathlib.Core.Path.{_≡_, sym, ap, subst, _∙_}
 use mathlib.Core.Option.{Option·map}
 use Prim.Native.Nat.{ℕ, _<_, _^_}
 use Rattle.lookup.specs.Opcodes.{row-for}
 use Rattle.lookup.specs.served.Lines.{line-of, line-found}
 use Rattle.lookup.specs.declared.Found.{Found}
-use Rattle.reader.specs.served.Judge.{Judges}
+use Rattle.reader.specs.served.Judge.{refused, Judges}
 use Rattle.reader.proofs.JudgeLaws.{line-fitted, none-fits, stray-there}
 use borrow.Author.Needs.{needs}
 use Rattle.reader.proofs.judge.judge_word.Statement.{statement}
@@ -35,6 +35,10 @@ judge-fields-requires c κs =
 returns : tie.Need-returns
 returns c = search needs
 
+lowest-stray-requires : tie.Need-lowest-stray-requires
+unfolding Led
+lowest-stray-requires c κs = line-fitted (c .before .before .before .before .before .before .before .args .w) (subst (Led (c .before .before .before .before .before .before .before .args .w)) (c .before .before .before .before .l .given .1) (c .before .before .before .before .before .before .line-of .ensures .0))
+
 refuse-requires : tie.Need-refuse-requires
 refuse-requires c κs = search needs
 
@@ -47,11 +51,10 @@ refuse-requires-2 c κs = search needs
 returns-2 : tie.Need-returns-2
 unfolding Led
 returns-2 c =
-    let k = c .before .before .before .before in
-    let a = k .before .before .before .before in
-    let hw : a .args .w < 2 ^ 64 = search needs in
-    let f = line-fitted (a .args .w) (subst (Led (a .args .w)) (k .before .l .given .1) (k .before .before .before .line-of .ensures .0)) in
-    subst (Judges (a .args .w)) (sym (c .refuse .ensures)) (stray-there (a .args .w) hw _ f (c .before .if1 .left))
+    let hw : c .before .before .before .before .before .before .before .before .before .args .w < 2 ^ 64 = search needs in
+    let f = line-fitted (c .before .before .before .before .before .before .before .before .before .args .w) (subst (Led (c .before .before .before .before .before .before .before .before .before .args .w)) (c .before .before .before .before .before .before .l .given .1) (c .before .before .before .before .before .before .before .before .line-of .ensures .0)) in
+    subst (Judges (c .before .before .before .before .before .before .before .before .before .args .w)) (sym (c .refuse .ensures ∙ ap (refused 3) (c .before .lowest-stray .ensures)))
+    (stray-there (c .before .before .before .before .before .before .before .before .before .args .w) hw _ f (c .before .before .if1 .left))
 
 returns-3 : tie.Need-returns-3
 unfolding Led
@@ -68,6 +71,7 @@ judge-word-spec =
     enum-known-l
     judge-fields-requires
     returns
+    lowest-stray-requires
     refuse-requires
     enum-told
     refuse-requires-2
