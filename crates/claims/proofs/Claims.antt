@@ -54,53 +54,53 @@ use Rattle.container.specs.Opening.{Rejection, unplaced, open-outcome, Opens}
 use Rattle.container.specs.Words.{word-outcome, open-count}
 use Rattle.container.proofs.NumberedLaws as container-numbers
 use Rattle.packing.proofs.NumberedLaws as packing-numbers
-use Rattle.verifier.specs.declared.verdict.Finding.{Finding}
-use Rattle.verifier.specs.Verdict.{Judgement, verdict-of, all-read}
-use Rattle.verifier.specs.Program.{Program, machine, WellFormed}
-use Rattle.verifier.specs.Reasons.{Reason}
-use Rattle.verifier.specs.Passed.{PassesOn}
-use Rattle.verifier.proofs.PassedLaws as passed-on
-use Rattle.verifier.specs.Demand3.{Demand3}
-use Rattle.verifier.specs.Lazy.{WavesThrough}
+use Rattle.safety.specs.declared.verdict.Finding.{Finding}
+use Rattle.safety.specs.Verdict.{Judgement, verdict-of, all-read}
+use Rattle.safety.specs.Program.{Program, machine, WellFormed}
+use Rattle.safety.specs.Reasons.{Reason}
+use Rattle.safety.specs.Passed.{PassesOn}
+use Rattle.safety.proofs.PassedLaws as passed-on
+use Rattle.safety.specs.Demand3.{Demand3}
+use Rattle.safety.specs.Lazy.{WavesThrough}
 use Rattle.walks.specs.Walks.{Machine, HoldsIfSupplied}
 use Rattle.walks.specs.Sweeps.{Note, Reports}
 use Rattle.walks.proofs.WalkLaws as walk-laws
 use Rattle.verifier.proofs.verify as check-call
 use Rattle.verifier.proofs.read_all as read-all-call
-use Rattle.verifier.proofs.ReadLaws as read-laws
-use Rattle.verifier.proofs.NumberedLaws as verifier-numbers
-use Rattle.verifier.proofs.Demand3 as demand-3-met
-use Rattle.verifier.proofs.ReasonLaws as reasons
-use Rattle.verifier.proofs.LazyChecks as lazy-checks
-use Rattle.infer.specs.Sweeps.{note, sweeps}
+use Rattle.safety.proofs.ReadLaws as read-laws
+use Rattle.safety.proofs.NumberedLaws as verifier-numbers
+use Rattle.safety.proofs.Demand3 as demand-3-met
+use Rattle.safety.proofs.ReasonLaws as reasons
+use Rattle.safety.proofs.LazyChecks as lazy-checks
+use Rattle.sweeps.specs.Sweeps.{note, sweeps}
 use Rattle.infer.specs.Inference.{infer-outcome, infer-buffer}
 use Rattle.infer.specs.Asked.{Maker, Asked}
 use Rattle.infer.specs.Lazy.{AlwaysNone, NamesNothing, LeavesOutTheLast, StopsEarly}
 use Rattle.infer.proofs.infer as infer-call
 use Rattle.infer.proofs.AskedLaws as inferred
-use Rattle.infer.proofs.SweepLaws as sweep-laws
+use Rattle.sweeps.proofs.SweepLaws as sweep-laws
 use Rattle.infer.proofs.LazyMakers as lazy-makers
 use Rattle.infer.proofs.NumberedLaws as infer-numbers
-use Rattle.diff.specs.declared.answer.Unread.{Unread}
-use Rattle.diff.specs.Records.{contents, HoldsBits}
-use Rattle.diff.specs.Differences.{instruction-of, shared}
-use Rattle.diff.specs.Answers.{side-of, both-read, line-outcome}
-use Rattle.diff.specs.Numbers.{TellLines}
-use Rattle.diff.specs.Asked.{Comparison, Compares}
-use Rattle.diff.specs.Lazy.{NeverLists, ListsEveryField}
+use Rattle.differences.specs.declared.answer.Unread.{Unread}
+use Rattle.differences.specs.Records.{contents, HoldsBits}
+use Rattle.differences.specs.Differences.{instruction-of, shared}
+use Rattle.differences.specs.Answers.{side-of, both-read, line-outcome}
+use Rattle.differences.specs.Numbers.{TellLines}
+use Rattle.differences.specs.Asked.{Comparison, Compares}
+use Rattle.differences.specs.Lazy.{NeverLists, ListsEveryField}
 use Rattle.diff.proofs.«diff_line» as diff-line-call
 use Rattle.difflist.proofs.«diff_lines» as diff-lines-call
 use Rattle.diff.proofs.«both_read» as both-read-call
-use Rattle.diff.proofs.AskedLaws as compared
-use Rattle.diff.proofs.BitLaws as bit-laws
-use Rattle.diff.proofs.NumberLaws as number-laws
-use Rattle.diff.proofs.LazyComparisons as lazy-comparisons
-use Rattle.diff.proofs.RefusalLaws as diff-refusals
+use Rattle.differences.proofs.AskedLaws as compared
+use Rattle.differences.proofs.BitLaws as bit-laws
+use Rattle.differences.proofs.NumberLaws as number-laws
+use Rattle.differences.proofs.LazyComparisons as lazy-comparisons
+use Rattle.differences.proofs.RefusalLaws as diff-refusals
 use Rattle.leftout.specs.LeftOut.{Apart}
 use Rattle.leftout.proofs.StandsApart as stands-apart
 use Rattle.disasm.proofs.«write» as text-call
-use Rattle.wordtext.specs.Lacks.{LackTrue}
-use Rattle.wordtext.proofs.StrayLaws as word-stray
+use Rattle.lacks.specs.Lacks.{LackTrue}
+use Rattle.lacks.proofs.StrayLaws as word-stray
 use Rattle.show.specs.Show.{shown}
 use Rattle.show.proofs.«write» as show-call
 use Rattle.show.proofs.FrontLaws as show-fronts
@@ -113,7 +113,7 @@ use Rattle.difftext.proofs.write_line as write-line-call
 use Rattle.difftext.proofs.ShownLaws as shown-laws
 use Rattle.listing.proofs.AskedLaws as asked
 use Rattle.listing.proofs.CutLaws as cut
-use Rattle.capi.specs.Promises.{ZeroMeansDone, FewerMeansNone, NoRowMeansNone, ReadThenWritten, WrittenThenRead, FreshThenWritten, TextNeverEmpty, NoNameMeansNone}
+use Rattle.codes.specs.Promises.{ZeroMeansDone, FewerMeansNone, NoRowMeansNone, ReadThenWritten, WrittenThenRead, FreshThenWritten, TextNeverEmpty, NoNameMeansNone}
 use Rattle.capi.proofs.vsp_read as vsp-read-call
 use Rattle.capi.proofs.vsp_write as vsp-write-call
 use Rattle.capi.proofs.vsp_fresh as vsp-fresh-call
@@ -124,8 +124,8 @@ use Rattle.capi.proofs.vsp_diff_line as vsp-diff-line-call
 use Rattle.capi.proofs.vsp_diff_lines as vsp-diff-lines-call
 use Rattle.capi.proofs.vsp_text as vsp-text-call
 use Rattle.capi.proofs.vsp_name as vsp-name-call
-use Rattle.capi.proofs.PromiseLaws as promises
-use Rattle.capi.proofs.TextLaws as text-promises
+use Rattle.codes.proofs.PromiseLaws as promises
+use Rattle.codes.proofs.TextLaws as text-promises
 use Rattle.claims.proofs.FrontLaws as front-laws
 
 -- ---- Demand 1: every call ends, with the answer that its contract names, and a refusal writes nothing. A contract's `ensures` equates the

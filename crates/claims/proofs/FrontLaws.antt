@@ -7,13 +7,13 @@ use lib.ListN.{take}
 use Rattle.bits.specs.Lists.{kth}
 use Rattle.bits.specs.Outcomes.{Outcome, gives, refuses, passes, _then_}
 use Rattle.bits.proofs.OutcomeLaws.{then-refused}
-use Rattle.verifier.specs.Verdict.{Judgement, all-read}
-use Rattle.verifier.proofs.ReadLaws.{formed}
-use Rattle.diff.specs.declared.line.Line.{Line}
-use Rattle.diff.specs.declared.answer.Side.the-variants.{First, Second}
-use Rattle.diff.specs.declared.answer.Unread.{Unread}
-use Rattle.diff.specs.Differences.{differences}
-use Rattle.diff.specs.Answers.{of-side, both-read, line-outcome}
+use Rattle.safety.specs.Verdict.{Judgement, all-read}
+use Rattle.safety.proofs.ReadLaws.{formed}
+use Rattle.differences.specs.declared.line.Line.{Line}
+use Rattle.differences.specs.declared.answer.Side.the-variants.{First, Second}
+use Rattle.differences.specs.declared.answer.Unread.{Unread}
+use Rattle.differences.specs.Differences.{differences}
+use Rattle.differences.specs.Answers.{of-side, both-read, line-outcome}
 use Rattle.listing.specs.Cut.{read-length}
 use Rattle.listing.proofs.CutLaws.{read-from-the-front, all-of-it}
 

@@ -10,20 +10,20 @@ use Rattle.bits.proofs.OutcomeLaws.{never, then-passed, then-refused, then-give
 use Rattle.container.specs.Container.{most-instructions}
 use Rattle.container.specs.Words.{open-count}
 use Rattle.container.proofs.WordLaws.{opened-count}
-use Rattle.verifier.specs.declared.verdict.Finding.{Finding}
-use Rattle.verifier.specs.Verdict.{Judgement, all-read}
-use Rattle.diff.specs.declared.answer.Side.the-variants.{First, Second}
-use Rattle.diff.specs.declared.answer.Unread.{Unread}
-use Rattle.diff.specs.declared.answer.Ready.{Ready}
-use Rattle.diff.specs.declared.answer.Ready.the-variants.{Both as both-ready, Unread as unready}
-use Rattle.diff.specs.declared.line.Line.{Line}
-use Rattle.diff.specs.Differences.{differences}
-use Rattle.diff.specs.Numbers.{front-filled, most-lines}
-use Rattle.diff.specs.Answers.{ready-outcome, of-side, both-read, line-outcome, list-outcome, list-buffer}
-use Rattle.diff.specs.served.Cursor.{Both, Counted}
-use Rattle.verifier.proofs.ReadLaws.{formed}
-use Rattle.diff.proofs.ListLaws.{kth-member}
-use Rattle.diff.proofs.FillLaws.{few-lines, small-index}
+use Rattle.safety.specs.declared.verdict.Finding.{Finding}
+use Rattle.safety.specs.Verdict.{Judgement, all-read}
+use Rattle.differences.specs.declared.answer.Side.the-variants.{First, Second}
+use Rattle.differences.specs.declared.answer.Unread.{Unread}
+use Rattle.differences.specs.declared.answer.Ready.{Ready}
+use Rattle.differences.specs.declared.answer.Ready.the-variants.{Both as both-ready, Unread as unready}
+use Rattle.differences.specs.declared.line.Line.{Line}
+use Rattle.differences.specs.Differences.{differences}
+use Rattle.differences.specs.Numbers.{front-filled, most-lines}
+use Rattle.differences.specs.Answers.{ready-outcome, of-side, both-read, line-outcome, list-outcome, list-buffer}
+use Rattle.diffparts.specs.served.Parts.{Both, Counted}
+use Rattle.safety.proofs.ReadLaws.{formed}
+use Rattle.differences.proofs.ListLaws.{kth-member}
+use Rattle.diff.proofs.FewLaws.{few-lines, small-index}
 
 module _ (a b : List ℕ) where
   pub first-bad : {f : Finding} → refuses f ≡ all-read a → _≡_ {A = Outcome Unread (Unit {0})} (refuses (record { side = First; finding = f })) (both-read a b)

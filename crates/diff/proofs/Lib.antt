@@ -1,16 +1,4 @@
-pub mod ListLaws
-pub mod DiffersLaws
-pub mod OrderLaws
-pub mod RecordLaws
-pub mod BitLaws
-pub mod EqualLaws
-pub mod AskedLaws
-pub mod LazyComparisons
-pub mod PartLaws
-pub mod LineLaws
 pub mod ScanLaws
 pub mod WalkLaws
-pub mod FillLaws
+pub mod FewLaws
 pub mod AnswerLaws
-pub mod RefusalLaws
-pub mod NumberLaws

@@ -11,14 +11,14 @@ use lib.Seq.{drop-cons}
 use borrow.Author.Tests.{eqb-true, eqb-false, eq-eqb, ne-eqb, ltb-true, ltb-false}
 use Rattle.bits.specs.Fields.{choose}
 use Rattle.bits.specs.Sets.{lowest-from}
-use Rattle.diff.specs.declared.line.What.{What}
-use Rattle.diff.specs.declared.line.What.the-variants.{Row}
-use Rattle.diff.specs.declared.line.Line.{Line}
-use Rattle.diff.specs.Records.{fields, field-count}
-use Rattle.diff.specs.Differences.{line, field-lines, lines-from}
+use Rattle.differences.specs.declared.line.What.{What}
+use Rattle.differences.specs.declared.line.What.the-variants.{Row}
+use Rattle.differences.specs.declared.line.Line.{Line}
+use Rattle.differences.specs.Records.{fields, field-count}
+use Rattle.differences.specs.Differences.{line, field-lines, lines-from}
 use Rattle.diff.specs.served.Cursor.{field-line, fields-from, differing-from}
-use Rattle.diff.proofs.DiffersLaws.{fields-length}
-use Rattle.diff.proofs.LineLaws.{lines-step, lines-end}
+use Rattle.differences.proofs.DiffersLaws.{fields-length}
+use Rattle.differences.proofs.LineLaws.{lines-step, lines-end}
 
 module _ (xs ys : List ℕ) where
   abbrev other : ℕ → Bool

@@ -2,31 +2,30 @@
 use mathlib.Core.Path.{_≡_, refl, sym, ap, ap₂, _∙_}
 use mathlib.Core.Bool.{Bool, true, false}
 use mathlib.Core.List.{List, [], _∷_, _++_, append-assoc, append-nil}
-use Prim.Native.Nat.{ℕ, zero, suc, _+_, _-_, _*_, _<_, _≤_, max, min}
+use Prim.Native.Nat.{ℕ, _+_, _-_, _*_, _<_, _≤_, max}
 use native.Mathlib.Nat.{add-zero, sub-zero}
-use native.Mathlib.Numerals.{add-one}
 use native.Mathlib.Omega.{arith}
-use lib.Dec.{eqb, ltb}
-use lib.ListN.{length, getD, take, drop}
-use borrow.Author.Tests.{lt-ltb, le-ltb, eq-eqb, ne-eqb, ltb-true, ltb-false}
-use Rattle.bits.specs.Fields.{choose}
-use Rattle.bits.specs.Bytes.{little}
+use lib.Dec.{ltb}
+use lib.ListN.{length, getD}
+use borrow.Author.Tests.{eq-eqb, ltb-true, ltb-false}
 use Rattle.bits.specs.Outcomes.{_then_}
 use Rattle.container.specs.Container.{count-of, words-of, eight}
 use Rattle.container.specs.Opening.{Opens}
 use Rattle.container.proofs.OpeningLaws.{length-words, length-part}
 use Rattle.reader.specs.Reader.{read, read-number}
-use Rattle.verifier.specs.Program.{instruction-in, instruction-at}
-use Rattle.diff.specs.declared.line.What.{What}
-use Rattle.diff.specs.declared.line.What.the-variants.{Row}
-use Rattle.diff.specs.declared.line.Line.{Line}
+use Rattle.safety.specs.Program.{instruction-in, instruction-at}
+use Rattle.differences.specs.declared.line.What.{What}
+use Rattle.differences.specs.declared.line.What.the-variants.{Row}
+use Rattle.differences.specs.declared.line.Line.{Line}
 use Rattle.diff.specs.declared.cursor.At.{At}
-use Rattle.diff.specs.Records.{fields, field-count, contents}
-use Rattle.diff.specs.Differences.{line, where-differs, field-lines, lines-from, instruction-of, word-of, shared, instruction-lines, removed-line, added-line, extra-lines, entry-lines, note-lines, differences}
-use Rattle.diff.specs.served.Cursor.{longer, part-count, single-lines, singles-from, fields-from, differing-from, told-at, Found, from-instruction, remaining, stage-stepped}
-use Rattle.diff.proofs.DiffersLaws.{contents-length}
-use Rattle.diff.proofs.LineLaws.{lines-step, lines-end, lines-add, lines-shift, lines-same}
+use Rattle.differences.specs.Records.{fields, field-count, contents}
+use Rattle.differences.specs.Differences.{line, field-lines, lines-from, instruction-of, word-of, shared, instruction-lines, removed-line, added-line, extra-lines, entry-lines, note-lines, differences}
+use Rattle.diffparts.specs.served.Parts.{longer, part-count, single-lines, singles-from}
+use Rattle.diff.specs.served.Cursor.{fields-from, differing-from, told-at, Found, from-instruction, remaining, stage-stepped}
+use Rattle.differences.proofs.DiffersLaws.{contents-length}
+use Rattle.differences.proofs.LineLaws.{lines-step, lines-end, lines-add, lines-shift, lines-same}
 use Rattle.diff.proofs.ScanLaws.{none-from, all-fields, first-line}
+use Rattle.diffparts.proofs.SingleLaws.{at-removed, at-added, at-entry, at-note}
 
 -- a word that stands in a container is read as its eight bytes are
 module _ (s : List ℕ) (o : Opens s) (i : ℕ) (h : i < count-of s) where
@@ -68,22 +67,6 @@ module _ (a b : List ℕ) where
   m = count-of b
 
   -- ---- the parts after the instructions that both have
-
-  pub at-removed : (p : ℕ) → p < n → removed-line a p ≡ single-lines a b p
-  unfolding single-lines
-  at-removed p h = sym (rw (lt-ltb p n h))
-
-  pub at-added : (p : ℕ) → n ≤ p → p < m → added-line b p ≡ single-lines a b p
-  unfolding single-lines
-  at-added p l h = sym (rw (le-ltb p n l, lt-ltb p m h))
-
-  pub at-entry : (p : ℕ) → n ≤ p → m ≤ p → p ≡ longer a b → entry-lines a b ≡ single-lines a b p
-  unfolding single-lines
-  at-entry p l k e = sym (rw (le-ltb p n l, le-ltb p m k, eq-eqb p (longer a b) e))
-
-  pub at-note : (p : ℕ) → n ≤ p → m ≤ p → (p ≡ longer a b → ⊥) → note-lines a b (p - longer a b - 1) ≡ single-lines a b p
-  unfolding single-lines
-  at-note p l k e = sym (rw (le-ltb p n l, le-ltb p m k, ne-eqb p (longer a b) e))
 
   pub singles-step : (p : ℕ) → p < part-count a b → singles-from a b p ≡ single-lines a b p ++ singles-from a b (p + 1)
   unfolding singles-from
@@ -148,13 +131,13 @@ module _ (a b : List ℕ) where
           let h = ltb-true n m e in
           let x : shared a b ≡ n = omega (arith, h) in
           let y : longer a b - shared a b ≡ m - n = omega (arith, h) in
-          ap₂ (lines-from (single-lines a b)) x y ∙ lines-same n (m - n) (λ p l k. sym (at-added p l (omega (arith, h, k))))
+          ap₂ (lines-from (single-lines a b)) x y ∙ lines-same n (m - n) (λ p l k. sym (at-added a b p l (omega (arith, h, k))))
           ∙ ap (λ (l : List Line). l ++ lines-from (added-line b) n (m - n)) (sym (lines-end (removed-line a) m n (omega (arith, h))))
       go false e =
           let h = ltb-false n m e in
           let x : shared a b ≡ m = omega (arith, h) in
           let y : longer a b - shared a b ≡ n - m = omega (arith, h) in
-          ap₂ (lines-from (single-lines a b)) x y ∙ lines-same m (n - m) (λ p l k. sym (at-removed p (omega (arith, h, k)))) ∙ sym (append-nil _)
+          ap₂ (lines-from (single-lines a b)) x y ∙ lines-same m (n - m) (λ p l k. sym (at-removed a b p (omega (arith, h, k)))) ∙ sym (append-nil _)
           ∙ ap (λ (l : List Line). lines-from (removed-line a) m (n - m) ++ l) (sym (lines-end (added-line b) n m h))
 
   notes : lines-from (single-lines a b) (longer a b + 1) (shared a b) ≡ lines-from (note-lines a b) 0 (shared a b)
@@ -167,11 +150,11 @@ module _ (a b : List ℕ) where
           cancel x j = omega arith
 
       here : (j : ℕ) → 0 ≤ j → j < 0 + shared a b → single-lines a b (longer a b + 1 + j) ≡ note-lines a b j
-      here j l k = sym (at-note (longer a b + 1 + j) (omega arith) (omega arith) (λ e. omega (arith, e))) ∙ ap (note-lines a b) (back j)
+      here j l k = sym (at-note a b (longer a b + 1 + j) (omega arith) (omega arith) (λ e. omega (arith, e))) ∙ ap (note-lines a b) (back j)
 
   one-entry : lines-from (single-lines a b) (longer a b) 1 ≡ entry-lines a b
   unfolding lines-from
-  one-entry = append-nil _ ∙ sym (at-entry (longer a b) (omega arith) (omega arith) refl)
+  one-entry = append-nil _ ∙ sym (at-entry a b (longer a b) (omega arith) (omega arith) refl)
 
   -- the parts after the instructions that both have are the rest of the list
   all-singles : singles-from a b (shared a b) ≡ (extra-lines a b ++ entry-lines a b) ++ lines-from (note-lines a b) 0 (shared a b)

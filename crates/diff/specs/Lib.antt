@@ -1,7 +1,1 @@
-pub mod Records
-pub mod Differences
-pub mod Answers
-pub mod Numbers
-pub mod Asked
-pub mod Lazy
 pub mod served

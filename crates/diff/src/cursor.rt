@@ -2,18 +2,19 @@
 ghost use mathlib.Core.Path.{_≡_};
 ghost use Prim.Native.Nat.{ℕ, _<_, _≤_, max};
 ghost use mathlib.Core.List.{List};
-ghost use Rattle.diff.specs.Differences.{shared as shared-of};
-ghost use Rattle.diff.specs.Records.{field-count};
-ghost use Rattle.diff.specs.served.Cursor.{Both, Counted, Loaded, Found, differing-from, told-at, remaining, stepped, stage-stepped, singles-from};
-use crate::contents::take_contents;
-use crate::line::FIELDS;
-use crate::line::Line;
-use crate::line::field;
-use crate::parts::word;
-use crate::single::Single;
-use crate::single::larger;
-use crate::single::line_of_part;
-use crate::single::smaller;
+ghost use Rattle.differences.specs.Differences.{shared as shared-of};
+ghost use Rattle.differences.specs.Records.{field-count};
+ghost use Rattle.diffparts.specs.served.Parts.{Both, Counted, singles-from};
+ghost use Rattle.diff.specs.served.Cursor.{Loaded, Found, differing-from, told-at, remaining, stepped, stage-stepped};
+use differences::line::FIELDS;
+use differences::line::Line;
+use differences::line::field;
+use diffparts::contents::take_contents;
+use diffparts::parts::word;
+use diffparts::single::Single;
+use diffparts::single::larger;
+use diffparts::single::line_of_part;
+use diffparts::single::smaller;
 
 // Where a walk is: to be told are the fields from `field` on of the instruction `index`, and after them the parts from `next` on.
 pub struct At {

@@ -1,30 +1,24 @@
 // The comparison of two containers (the paper's compare): what differs between them, line by line.
-use crate::answer::Compared;
-use crate::answer::Ready;
-use crate::answer::Side;
-use crate::answer::Unread;
 use crate::cursor::At;
 use crate::cursor::Contents;
 use crate::cursor::Step;
 use crate::cursor::advance;
-use crate::line::FIELDS;
 use container::view::open_count;
+use differences::answer::Compared;
+use differences::answer::Ready;
+use differences::answer::Side;
+use differences::answer::Unread;
+use differences::line::FIELDS;
+use safety::verdict::Verdict;
 use verifier::read_all;
-use verifier::verdict::Verdict;
 ghost use mathlib.Core.Path.{_≡_};
 ghost use Rattle.bits.specs.Lists.{kth};
 ghost use Rattle.bits.specs.Outcomes.{gives};
-ghost use Rattle.diff.specs.Differences.{differences};
-ghost use Rattle.diff.specs.Answers.{compared-outcome, ready-outcome, both-read, line-outcome};
-ghost use Rattle.diff.specs.served.Cursor.{Counted};
+ghost use Rattle.differences.specs.Differences.{differences};
+ghost use Rattle.differences.specs.Answers.{compared-outcome, ready-outcome, both-read, line-outcome};
+ghost use Rattle.diffparts.specs.served.Parts.{Counted};
 
-pub mod answer;
-mod contents;
 pub mod cursor;
-pub mod line;
-pub mod numbers;
-mod parts;
-pub mod single;
 
 // Whether both containers open and read: the first is asked first.
 pub fn both_read<'a>(first: &'a [u8], second: &'a [u8]) -> Ready

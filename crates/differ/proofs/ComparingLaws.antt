@@ -11,10 +11,10 @@ use lib.ListN.{length, take, drop, length-drop, drop-of-length-le}
 use lib.Seq.{take-all, drop-drop}
 use Rattle.bits.specs.Lists.{kth}
 use Rattle.bits.specs.Outcomes.{refuses}
-use Rattle.diff.specs.declared.line.Line.{Line}
-use Rattle.diff.specs.declared.answer.Unread.{Unread}
-use Rattle.diff.specs.Differences.{differences}
-use Rattle.diff.specs.Answers.{both-read}
+use Rattle.differences.specs.declared.line.Line.{Line}
+use Rattle.differences.specs.declared.answer.Unread.{Unread}
+use Rattle.differences.specs.Differences.{differences}
+use Rattle.differences.specs.Answers.{both-read}
 use Rattle.input.specs.declared.Input.{Input}
 use Rattle.input.specs.declared.Input.the-variants.{Bytes}
 use Rattle.differ.specs.Comparing.{length-in, ready, listed, Parted}

@@ -7,12 +7,12 @@ use lib.ListN.{length, take, drop}
 use Rattle.bits.specs.Bytes.{little}
 use Rattle.bits.specs.Outcomes.{Outcome}
 use Rattle.rows.specs.Names.{ascii}
-use Rattle.diff.specs.declared.line.Line.{Line}
-use Rattle.diff.specs.declared.answer.Side.{Side}
-use Rattle.diff.specs.declared.answer.Side.the-variants.{First, Second}
-use Rattle.diff.specs.declared.answer.Unread.{Unread}
-use Rattle.diff.specs.Differences.{differences}
-use Rattle.diff.specs.Answers.{both-read}
+use Rattle.differences.specs.declared.line.Line.{Line}
+use Rattle.differences.specs.declared.answer.Side.{Side}
+use Rattle.differences.specs.declared.answer.Side.the-variants.{First, Second}
+use Rattle.differences.specs.declared.answer.Unread.{Unread}
+use Rattle.differences.specs.Differences.{differences}
+use Rattle.differences.specs.Answers.{both-read}
 use Rattle.input.specs.declared.Input.{Input}
 use Rattle.input.specs.declared.Input.the-variants.{Bytes}
 use Rattle.listing.specs.Cut.{read-length}

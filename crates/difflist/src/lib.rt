@@ -1,13 +1,13 @@
 // The comparison of two containers as a whole: the list of what differs, at once.
 use crate::list::put_lines;
 use container::view::open_count;
-use diff::answer::Listed;
-use diff::answer::Ready;
 use diff::both_read;
-use diff::line::FIELDS;
-use diff::numbers::MOST_NUMBERS;
+use differences::answer::Listed;
+use differences::answer::Ready;
+use differences::line::FIELDS;
+use differences::numbers::MOST_NUMBERS;
 ghost use mathlib.Core.Path.{_≡_};
-ghost use Rattle.diff.specs.Answers.{listed-outcome, list-outcome, list-buffer};
+ghost use Rattle.differences.specs.Answers.{listed-outcome, list-outcome, list-buffer};
 
 mod list;
 

@@ -2,23 +2,38 @@
 // many there are then.
 ghost use mathlib.Core.Path.{_≡_};
 ghost use Prim.Native.Nat.{_+_, _*_, _<_, _≤_};
+ghost use mathlib.Core.List.{[], _∷_};
 ghost use lib.ListN.{length};
 ghost use Rattle.container.specs.Container.{most-instructions};
-ghost use Rattle.diff.specs.Records.{field-count};
-ghost use Rattle.diff.specs.Differences.{shared as shared-of, instruction-lines, lines-from, differences};
-ghost use Rattle.diff.specs.Numbers.{most-lines};
-ghost use Rattle.diff.specs.served.Cursor.{Both, Counted, part-count, field-line, fields-from, single-lines, singles-from};
-ghost use Rattle.diff.specs.served.Placed.{Placed};
+ghost use Rattle.differences.specs.Records.{field-count};
+ghost use Rattle.differences.specs.Differences.{shared as shared-of, instruction-lines, lines-from, differences};
+ghost use Rattle.differences.specs.Numbers.{most-lines};
+ghost use Rattle.diffparts.specs.served.Parts.{Both, Counted, part-count, single-lines, singles-from};
+ghost use Rattle.diff.specs.served.Cursor.{field-line, fields-from};
+ghost use Rattle.difflist.specs.served.Placed.{Placed};
 use diff::cursor::Contents;
 use diff::cursor::load;
-use diff::line::FIELDS;
-use diff::line::Line;
-use diff::line::field;
-use diff::numbers::put_line;
-use diff::single::Single;
-use diff::single::larger;
-use diff::single::line_of_part;
-use diff::single::smaller;
+use differences::line::FIELDS;
+use differences::line::Line;
+use differences::line::field;
+use differences::numbers::line_numbers;
+use diffparts::single::Single;
+use diffparts::single::larger;
+use diffparts::single::line_of_part;
+use diffparts::single::smaller;
+
+// Puts the numbers of a line after k lines of a buffer, and tells how many lines there are then.
+fn put_line(line: Line, k: usize, out: &mut [u64]) -> usize
+    requires { ⌜ (line .index < most-instructions) × (3 * (k + 1) ≤ length (now out)) ⌝ }
+    ensures { λ r. ⌜ Placed (line ∷ []) k (now (out .entry)) (now (out .exit)) r ⌝ }
+{
+    let l = line_numbers(line);
+    let at = 3 * k;
+    out[at] = l[0];
+    out[at + 1] = l[1];
+    out[at + 2] = l[2];
+    k + 1
+}
 
 // Field f of an instruction.
 fn put_field(

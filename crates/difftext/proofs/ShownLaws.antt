@@ -25,16 +25,16 @@ use Rattle.record.specs.declared.instruction.Instruction.{Instruction}
 use Rattle.record.proofs.NumberLaws.{modifier-room, number-room}
 use Rattle.writer.proofs.RoundTrip.{legal-row, legal-roomy, read-legal}
 use Rattle.container.specs.Container.{header-length, word-length, annotation-length, count-of, entry-of, words-of, annotations-of, annotations-start, eight}
-use Rattle.verifier.specs.Program.{WellFormed, instruction-in, instruction-at, annotation-at}
-use Rattle.diff.specs.declared.line.What.{What}
-use Rattle.diff.specs.declared.line.What.the-variants.{Row}
-use Rattle.diff.specs.declared.line.Line.{Line}
-use Rattle.diff.specs.Records.{fields, field-count, destination, at-bit-8, contents}
-use Rattle.diff.specs.Differences.{instruction-of, word-of, note-of, differences}
-use Rattle.diff.specs.Asked.{content, Differs, at-field, at-removed, at-added, at-entry, at-note}
-use Rattle.diff.proofs.ListLaws.{kth-member}
-use Rattle.diff.proofs.DiffersLaws.{fields-length, listed-differs}
-use Rattle.diff.proofs.FillLaws.{small-index}
+use Rattle.safety.specs.Program.{WellFormed, instruction-in, instruction-at, annotation-at}
+use Rattle.differences.specs.declared.line.What.{What}
+use Rattle.differences.specs.declared.line.What.the-variants.{Row}
+use Rattle.differences.specs.declared.line.Line.{Line}
+use Rattle.differences.specs.Records.{fields, field-count, destination, at-bit-8, contents}
+use Rattle.differences.specs.Differences.{instruction-of, word-of, note-of, differences}
+use Rattle.differences.specs.Asked.{content, Differs, at-field, at-removed, at-added, at-entry, at-note}
+use Rattle.differences.proofs.ListLaws.{kth-member}
+use Rattle.differences.proofs.DiffersLaws.{fields-length, listed-differs}
+use Rattle.diff.proofs.FewLaws.{small-index}
 use Rattle.difftext.specs.Asked.{sayable, numbered, Shown, ShownWhole}
 
 -- ---- no modifier is wider than four bits

@@ -7,11 +7,11 @@ use Prim.Native.Nat.{ℕ, _^_, _<_}
 use lib.Dec.{T, ltb}
 use lib.Pow.{areBytes}
 use Rattle.bits.specs.Lists.{kth}
-use Rattle.verifier.specs.Program.{WellFormed}
-use Rattle.diff.specs.declared.line.What.{What}
-use Rattle.diff.specs.declared.line.What.the-variants.{Row, Page, Flow, Destination, Source, Modifier, Added, Removed, Entry, Annotation}
-use Rattle.diff.specs.declared.line.Line.{Line}
-use Rattle.diff.specs.Differences.{differences}
+use Rattle.safety.specs.Program.{WellFormed}
+use Rattle.differences.specs.declared.line.What.{What}
+use Rattle.differences.specs.declared.line.What.the-variants.{Row, Page, Flow, Destination, Source, Modifier, Added, Removed, Entry, Annotation}
+use Rattle.differences.specs.declared.line.Line.{Line}
+use Rattle.differences.specs.Differences.{differences}
 use Rattle.difftext.specs.Lines.{content-digits}
 
 -- the base of a content's digits

@@ -7,9 +7,9 @@ use Rattle.rows.specs.Names.{ascii, name-of, name-width}
 use Rattle.reader.specs.Reader.{read-number}
 use Rattle.text.specs.Text.{space, line-feed, decimal, hex}
 use Rattle.text.specs.Name.{name-in}
-use Rattle.diff.specs.declared.line.What.{What}
-use Rattle.diff.specs.declared.line.What.the-variants.{Row, Page, Flow, Destination, Source, Modifier, Added, Removed, Entry, Annotation}
-use Rattle.diff.specs.declared.line.Line.{Line}
+use Rattle.differences.specs.declared.line.What.{What}
+use Rattle.differences.specs.declared.line.What.the-variants.{Row, Page, Flow, Destination, Source, Modifier, Added, Removed, Entry, Annotation}
+use Rattle.differences.specs.declared.line.Line.{Line}
 
 -- the index in four decimal digits, and what differs there
 abbrev pub head : ℕ → List ℕ → List ℕ

@@ -1,6 +1,6 @@
 // The text of a line of a comparison, made in a buffer that the caller lends.
 use crate::told::put_told;
-use diff::line::Line;
+use differences::line::Line;
 use text::put::put_byte;
 ghost use Prim.Native.Nat.{_≤_};
 ghost use lib.ListN.{length};

@@ -1,27 +1,26 @@
 -- The modifiers by their index are those at the bits that the text names; sources one after another. Assumes nothing.
-use mathlib.Core.Path.{_≡_, refl, sym, ap, ap₂, _∙_}
-use mathlib.Core.Bool.{Bool, true, false}
-use mathlib.Core.List.{List, [], _∷_, _++_, append-assoc}
+use mathlib.Core.Path.{_≡_, refl, ap, ap₂}
+use mathlib.Core.Bool.{true, false}
+use mathlib.Core.List.{List, _++_, append-assoc}
 use Prim.Native.Nat.{ℕ, zero, suc, _+_, _-_, _<_, _≤_}
-use native.Mathlib.Omega.{arith}
 use borrow.Author.Tests.{lt-ltb, le-ltb, eq-eqb, ne-eqb}
-use lib.ListN.{getD, length}
-use Rattle.bits.specs.Fields.{choose}
+use lib.ListN.{getD}
 use Rattle.rows.specs.Names.{ascii, name-of}
 use Rattle.rows.specs.Rows.{row-of, row-count}
 use Rattle.rows.specs.Kinds.{flow}
 use Rattle.rows.specs.Layout.{modifier-at}
-use Rattle.rows.specs.declared.sources.Source.{Source}
-use Rattle.rows.specs.Sources.{meaning, source-meaning}
+use Rattle.rows.specs.Sources.{meaning}
 use Rattle.record.specs.declared.instruction.Instruction.{Instruction}
 use Rattle.record.specs.Lists.{source-list, modifier-list}
 use Rattle.text.specs.Text.{number-text, Put}
-use Rattle.text.proofs.TextLaws.{put-nothing, same-text}
+use Rattle.text.proofs.TextLaws.{put-nothing}
 use Rattle.fieldtext.specs.Enumerations.{own, sign, swizzle, field-text}
 use Rattle.fieldtext.specs.served.Coded.{row-kinds, coded-value, coded-text, coded-texts}
 use Rattle.fieldtext.proofs.CodedLaws.{Coded, coded}
-use Rattle.disasm.specs.Assembly.{modifiers-text, own-bits, sign-bits, swizzle-bits, meaning-text, source-text, sources-text, separator, before-sources, destination-text, signed-text, first-operand, last-operand, operands-text, row-text, opcode-text}
-use Rattle.disasm.specs.served.Places.{own-places, sign-places, swizzle-places, coded-source, coded-sources}
+use Rattle.sourcetext.specs.SourceText.{meaning-text}
+use Rattle.disasm.specs.Assembly.{modifiers-text, own-bits, sign-bits, swizzle-bits, source-text, sources-text, separator, before-sources, destination-text, signed-text, first-operand, last-operand, operands-text, row-text, opcode-text}
+use Rattle.sourcetext.specs.served.SourcePlaces.{sign-places, swizzle-places, coded-source}
+use Rattle.disasm.specs.served.Places.{own-places, coded-sources}
 
 joined : {a b c d : List ℕ} → a ≡ c → b ≡ d → a ++ b ≡ c ++ d
 joined p q = ap₂ (λ (x y : List ℕ). x ++ y) p q
@@ -90,15 +89,6 @@ module _ (kinds values : List ℕ) (page : ℕ) (bs : List ℕ) (first : ℕ) wh
   unfolding coded-sources
   one-source k = append-assoc (coded-sources kinds values page bs first k) (separator (first + k)) (coded-source kinds values page (getD bs k 0) k)
 
-three-more : (k : ℕ) → 3 ≤ k → k ≡ suc (suc (suc (k - 3)))
-three-more k h = omega arith
-
-pub signs-past : (k : ℕ) → 3 ≤ k → sign-places k ≡ 14 ∷ 14 ∷ []
-signs-past k h = ap sign-places (three-more k h)
-
-pub swizzles-past : (k : ℕ) → 3 ≤ k → swizzle-places k ≡ 14 ∷ 14 ∷ 14 ∷ []
-swizzles-past k h = ap swizzle-places (three-more k h)
-
 -- what stands before an operand
 pub first-separator : (j : ℕ) → j ≡ 0 → separator j ≡ ascii " "
 first-separator j e = rw (eq-eqb j 0 e)
@@ -112,12 +102,6 @@ named-row k h = rw (lt-ltb k row-count h)
 
 pub unnamed-row : (k : ℕ) → row-count ≤ k → row-text k ≡ ascii "?"
 unnamed-row k h = rw (le-ltb k row-count h)
-
--- a source, with the places of its modifiers as the code has them
-pub source-placed : (kinds values : List ℕ) (page b k : ℕ) {signs swizzles : List ℕ} → signs ≡ sign-places k → swizzles ≡ swizzle-places k
-    → meaning-text (meaning page b) ++ coded-texts 13 14 kinds values signs ++ coded-texts 15 23 kinds values swizzles ≡ coded-source kinds values page b k
-unfolding coded-source
-source-placed kinds values page b k p q = rw (p, q)
 
 -- the destination
 module _ (x : Instruction) where
@@ -144,14 +128,3 @@ module _ (x : Instruction) where
       → bytes ≡ source-list (x .sources) → first ≡ before-sources x → n ≡ row-of (x .row) .sources
       → first-operand x ++ coded-sources kinds values (x .page) bytes first n ++ last-operand x ≡ operands-text x
   operands-coded p q r s t = rw (p, q, r, s, t) (ap (λ (l : List ℕ). first-operand x ++ l ++ last-operand x) (sources-coded x (row-of (x .row) .sources)))
-
-pub three-swizzles : (k : ℕ) → length (swizzle-places k) ≡ 3
-three-swizzles zero = refl
-three-swizzles (suc zero) = refl
-three-swizzles (suc (suc zero)) = refl
-three-swizzles (suc (suc (suc k))) = refl
-
--- a source byte, by what the code found it to mean
-pub meant : (page b : ℕ) {r s : Source} {before after : List ℕ} {n : ℕ} → r ≡ s → source-meaning page r ≡ meaning page b
-    → Put (meaning-text (source-meaning page s)) before after n → Put (meaning-text (meaning page b)) before after n
-meant page b e f p = same-text (ap meaning-text (sym (ap (source-meaning page) e) ∙ f)) p

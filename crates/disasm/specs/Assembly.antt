@@ -10,11 +10,12 @@ use Rattle.rows.specs.Kinds.{Kind, half-mask, flow}
 use Rattle.rows.specs.Rows.{Row, row-of, row-count}
 use Rattle.rows.specs.Layout.{modifier-lows, modifier-place, kind-at}
 use Rattle.rows.specs.Names.{ascii, name-of, name-width}
-use Rattle.rows.specs.Sources.{Part, low-word, high-word, Meaning, register-read, register-released, uniform, immediate, special, refused, meaning}
+use Rattle.rows.specs.Sources.{meaning}
 use Rattle.record.specs.declared.instruction.Instruction.{Instruction}
 use Rattle.record.specs.Lists.{source-list, modifier-list}
 use Rattle.text.specs.Text.{number-text}
-use Rattle.fieldtext.specs.Enumerations.{Owner, own, sign, swizzle, owner, is, field-text, special-text, value-width, special-width}
+use Rattle.fieldtext.specs.Enumerations.{Owner, own, sign, swizzle, owner, is, field-text, value-width}
+use Rattle.sourcetext.specs.SourceText.{meaning-text, longest-source}
 
 -- the index of the modifier whose lowest bit is p, counted from the front of a list of lowest bits
 abbrev pub index-of : List ℕ → ℕ → ℕ
@@ -55,20 +56,6 @@ swizzle-bits zero = 28 ∷ 36 ∷ 37 ∷ []
 swizzle-bits (suc zero) = 26 ∷ []
 swizzle-bits (suc (suc zero)) = 24 ∷ []
 swizzle-bits (suc (suc (suc k))) = []
-
--- a special constant is two words (02, Item 2), which Mesa's text calls w0 and w1
-abbrev pub part-text : Part → List ℕ
-part-text low-word = ascii ".w0"
-part-text high-word = ascii ".w1"
-
--- what a source byte means: a register, with ^ where it is released; a uniform; an immediate in hexadecimal; a word of a special constant
-abbrev pub meaning-text : Meaning → List ℕ
-meaning-text (register-read r) = ascii "r" ++ number-text 10 3 r
-meaning-text (register-released r) = ascii "^r" ++ number-text 10 3 r
-meaning-text (uniform u) = ascii "u" ++ number-text 10 5 u
-meaning-text (immediate v) = ascii "0x" ++ number-text 16 8 v
-meaning-text (special s p) = special-text s ++ part-text p
-meaning-text refused = ascii "?"
 
 -- source k: what its byte means on the page, its signs, its swizzle
 unfoldable pub source-text : Instruction → ℕ → List ℕ
@@ -118,9 +105,6 @@ unfoldable pub instruction-text : Instruction → List ℕ
 instruction-text x = opcode-text x ++ operands-text x
 
 -- no such text has more bytes
-abbrev pub longest-source : ℕ
-longest-source = special-width + 3 + 2 * value-width + 3 * value-width
-
 abbrev pub longest-opcode : ℕ
 longest-opcode = name-width + 7 * value-width + value-width
 

@@ -20,7 +20,6 @@ ghost use Rattle.fieldtext.specs.served.Coded.{value-list, row-kinds};
 ghost use Rattle.disasm.specs.Assembly.{row-text, opcode-text, instruction-text, longest-opcode, longest-text};
 
 mod operands;
-mod source;
 
 // The numbers of the kinds that are the instruction's own.
 const FIRST_OWN: u8 = 1;

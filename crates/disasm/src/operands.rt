@@ -1,11 +1,11 @@
 // The operands of an instruction: the destination, the sources, the branch offset.
-use crate::source::put_source;
 use fieldtext::values::HALF_MASK;
 use fieldtext::values::Names;
 use fieldtext::values::put_value;
 use record::instruction::Instruction;
 use record::registers::has_destination;
 use record::registers::source_count;
+use sourcetext::put_source;
 use text::put::put_labelled;
 use text::put::put_number;
 use text::put::put_text;
@@ -17,7 +17,8 @@ ghost use Rattle.record.specs.Lists.{modifier-list};
 ghost use Rattle.text.specs.Text.{Put};
 ghost use Rattle.fieldtext.specs.Enumerations.{value-width};
 ghost use Rattle.fieldtext.specs.served.Coded.{value-list, row-kinds};
-ghost use Rattle.disasm.specs.Assembly.{separator, signed-text, first-operand, last-operand, operands-text, before-sources, longest-source, longest-operands};
+ghost use Rattle.sourcetext.specs.SourceText.{longest-source};
+ghost use Rattle.disasm.specs.Assembly.{separator, signed-text, first-operand, last-operand, operands-text, before-sources, longest-operands};
 ghost use Rattle.disasm.specs.served.Places.{coded-sources};
 
 // What stands before operand j.

@@ -27,20 +27,20 @@ use Rattle.walks.specs.served.Inference.{Proposal}
 use Rattle.walks.specs.served.Passing.{Passes, noted}
 use Rattle.walks.proofs.Proposed.{passes-same, exact-same}
 use Rattle.walks.proofs.RestLaws.{reached-noted}
-use Rattle.verifier.specs.declared.verdict.Finding.{Finding}
-use Rattle.verifier.specs.Program.{Program, successors, after, annotation-at, program-in, program-of, machine, machine-of}
-use Rattle.verifier.specs.Verdict.{Judgement, finding, no-register, first, judge-reading, judge-word, judge-program, verdict-of}
-use Rattle.verifier.specs.Passed.{ReadBefore, Unreadable, PassedOn}
-use Rattle.verifier.proofs.VerdictLaws.{both, neither, first-of, first-to, first-stop}
-use Rattle.verifier.proofs.PassedLaws.{words-passed-on}
-use Rattle.verifier.proofs.ProgramLaws.{passes-of, passes-to, eight-lt}
-use Rattle.verifier.proofs.Demand3.{accepted, word-of}
+use Rattle.safety.specs.declared.verdict.Finding.{Finding}
+use Rattle.safety.specs.Program.{Program, successors, after, annotation-at, program-in, program-of, machine, machine-of}
+use Rattle.safety.specs.Verdict.{Judgement, finding, no-register, first, judge-reading, judge-word, judge-program, verdict-of}
+use Rattle.safety.specs.Passed.{ReadBefore, Unreadable, PassedOn}
+use Rattle.safety.proofs.VerdictLaws.{both, neither, first-of, first-to, first-stop}
+use Rattle.safety.proofs.PassedLaws.{words-passed-on}
+use Rattle.safety.proofs.ProgramLaws.{passes-of, passes-to, eight-lt}
+use Rattle.safety.proofs.Demand3.{accepted, word-of}
 use Rattle.infer.proofs.PackedLaws.{packed-program, packed-verdict}
-use Rattle.infer.specs.Sweeps.{all-registers, among, first-note, narrowed-if, swept, note, sweeps, set-bytes, proposal}
+use Rattle.sweeps.specs.Sweeps.{all-registers, among, first-note, narrowed-if, swept, note, sweeps, set-bytes, proposal}
 use Rattle.infer.specs.Inference.{unannotated, proposed, none-acceptable, pass-on, infer-outcome, infer-buffer}
 use Rattle.infer.specs.Asked.{Acceptable, AsAsked, Inferred, Asked, Maker}
-use Rattle.infer.proofs.ByteLaws.{set-bytes-length, are-bytes, set-back}
-use Rattle.infer.proofs.SweepLaws as sweep-laws
+use Rattle.sweeps.proofs.ByteLaws.{set-bytes-length, are-bytes, set-back}
+use Rattle.sweeps.proofs.SweepLaws as sweep-laws
 use Rattle.infer.proofs.NumberedLaws.{all-refusals}
 
 -- a note is a 64-bit number

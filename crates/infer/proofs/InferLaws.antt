@@ -10,14 +10,14 @@ use Rattle.bits.specs.Outcomes.{Outcome, gives, refuses, passes, _then_, kept-o
 use Rattle.bits.proofs.OutcomeLaws.{never, then-gives, then-passed, then-refused, then-refuses}
 use Rattle.packing.specs.Packing.{word-count, fitting, Fitting, container-bytes}
 use Rattle.packing.proofs.PackLaws.{unfitting}
-use Rattle.verifier.specs.declared.verdict.Finding.{Finding}
-use Rattle.verifier.specs.Program.{Worded, Annotated, program-in}
-use Rattle.verifier.specs.Verdict.{finding, no-register, first, judge-word, judge-program, verdict-of}
+use Rattle.safety.specs.declared.verdict.Finding.{Finding}
+use Rattle.safety.specs.Program.{Worded, Annotated, program-in}
+use Rattle.safety.specs.Verdict.{finding, no-register, first, judge-word, judge-program, verdict-of}
 use Rattle.infer.proofs.PackedLaws.{packed-verdict}
-use Rattle.infer.specs.Sweeps.{sweeps, proposal}
+use Rattle.sweeps.specs.Sweeps.{sweeps, proposal}
 use Rattle.infer.specs.Inference.{unannotated, proposed, pass-on, infer-outcome, infer-buffer}
 use Rattle.infer.specs.Asked.{Inferred}
-use Rattle.infer.specs.served.Plan.{Swept, Handed}
+use Rattle.infer.specs.served.Handed.{Swept, Handed}
 use Rattle.infer.proofs.AskedLaws.{reads-of, offer-fits, answer-unfit, answer-fit, answer-read, meets}
 
 -- the first bytes of a buffer for any proposal

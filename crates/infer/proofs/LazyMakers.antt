@@ -23,11 +23,11 @@ use Rattle.reader.specs.Reader.{lowest-stray, read-row, read}
 use Rattle.container.specs.Container.{version-of, count-of, entry-of, words-of, annotations-of}
 use Rattle.container.specs.Opening.{open-outcome}
 use Rattle.packing.specs.Packing.{word-count, Fitting, front-bytes, container-bytes}
-use Rattle.verifier.specs.declared.verdict.Finding.{Finding}
+use Rattle.safety.specs.declared.verdict.Finding.{Finding}
 use Rattle.walks.proofs.Bounds.{reports-one}
-use Rattle.verifier.specs.Program.{successors, after, instruction-at, annotation-at, machine}
-use Rattle.verifier.specs.Verdict.{finding, first, each, none-missing, judge-successor, judge-flow, judge-program, verdict-of}
-use Rattle.infer.specs.Sweeps.{among, first-note, swept, note, set-bytes}
+use Rattle.safety.specs.Program.{successors, after, instruction-at, annotation-at, machine}
+use Rattle.safety.specs.Verdict.{finding, first, each, none-missing, judge-successor, judge-flow, judge-program, verdict-of}
+use Rattle.sweeps.specs.Sweeps.{among, first-note, swept, note, set-bytes}
 use Rattle.infer.specs.Inference.{unannotated, none-acceptable}
 use Rattle.infer.specs.Asked.{Acceptable, Maker, Asked}
 use Rattle.infer.specs.Lazy.{AlwaysNone, NamesNothing, LeavesOutTheLast, StopsEarly}

@@ -1,8 +1,4 @@
 pub mod PackedLaws
-pub mod ByteLaws
-pub mod PlanLaws
-pub mod SweepLaws
-pub mod LoopLaws
 pub mod ProposeLaws
 pub mod AskedLaws
 pub mod InferLaws

@@ -14,14 +14,14 @@ use Rattle.reader.specs.Reader.{read}
 use Rattle.container.specs.Container.{eight, most-instructions}
 use Rattle.packing.specs.Packing.{word-count, fitting, Fitting, container-bytes}
 use Rattle.packing.proofs.PackLaws.{fitting-of}
-use Rattle.verifier.specs.declared.verdict.Finding.{Finding}
-use Rattle.verifier.specs.Program.{machine}
-use Rattle.verifier.specs.Verdict.{Judgement, finding, no-register, first, judge-reading, judge-word, verdict-of}
-use Rattle.verifier.proofs.VerdictLaws.{first-refused}
-use Rattle.verifier.proofs.NumberedLaws.{ToldBetween, whole-words-numbers}
-use Rattle.infer.specs.Sweeps.{sweeps}
+use Rattle.safety.specs.declared.verdict.Finding.{Finding}
+use Rattle.safety.specs.Program.{machine}
+use Rattle.safety.specs.Verdict.{Judgement, finding, no-register, first, judge-reading, judge-word, verdict-of}
+use Rattle.safety.proofs.VerdictLaws.{first-refused}
+use Rattle.safety.proofs.NumberedLaws.{ToldBetween, whole-words-numbers}
+use Rattle.sweeps.specs.Sweeps.{sweeps}
 use Rattle.infer.specs.Inference.{unannotated, proposed, none-acceptable, pass-on, infer-outcome}
-use Rattle.infer.proofs.SweepLaws as sweep-laws
+use Rattle.sweeps.proofs.SweepLaws as sweep-laws
 
 abbrev pub FromTheMaker : ℕ → Type 0
 FromTheMaker n = Between 2 7 n ⊎ ((n ≡ 12) ⊎ (n ≡ 24))

@@ -8,8 +8,8 @@ use Rattle.bits.proofs.OutcomeLaws.{then-passed}
 use Rattle.container.specs.Container.{count-of, entry-of, words-of, annotations-of}
 use Rattle.packing.specs.Packing.{word-count, Fitting, container-bytes}
 use Rattle.packing.proofs.PackLaws.{packed-opens, packed-count, packed-entry, packed-words, packed-annotations}
-use Rattle.verifier.specs.Program.{program-in, program-of}
-use Rattle.verifier.specs.Verdict.{first, judge-opening, judge-word, judge-program, verdict-of}
+use Rattle.safety.specs.Program.{program-in, program-of}
+use Rattle.safety.specs.Verdict.{first, judge-opening, judge-word, judge-program, verdict-of}
 
 module _ (entry : ℕ) (words annotations : List ℕ) (small : entry < 2 ^ 64) (fits : Fitting (length words) (length annotations)) where
   pub packed-program : program-of (container-bytes entry words annotations) ≡ program-in words annotations (word-count (length words)) entry

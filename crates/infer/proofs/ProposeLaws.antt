@@ -9,13 +9,14 @@ use lib.Seq.{getD-set-same, getD-set-other, getD-take, take-length}
 use Rattle.bits.specs.Outcomes.{Outcome, gives, refuses, passes, _then_}
 use Rattle.bits.proofs.OutcomeLaws.{never, then-passed, then-refused}
 use Rattle.container.specs.Container.{most-instructions}
-use Rattle.verifier.specs.declared.verdict.Finding.{Finding}
-use Rattle.verifier.specs.Program.{Program, program-in, Worded}
-use Rattle.verifier.specs.Verdict.{Judgement, first, judge-word, judge-program}
-use Rattle.infer.specs.Sweeps.{all-registers, first-note, note, sweeps, set-bytes, proposal}
+use Rattle.safety.specs.declared.verdict.Finding.{Finding}
+use Rattle.safety.specs.Program.{Program, program-in, Worded}
+use Rattle.safety.specs.Verdict.{Judgement, first, judge-word, judge-program}
+use Rattle.sweeps.specs.Sweeps.{all-registers, first-note, note, sweeps, set-bytes, proposal}
 use Rattle.infer.specs.Inference.{none-acceptable}
-use Rattle.infer.specs.served.Plan.{Planned, Holds, Full, Begun, Rested, Swept, Handed}
-use Rattle.infer.proofs.ByteLaws.{set-bytes-ext}
+use Rattle.infer.specs.served.Handed.{Swept, Handed}
+use Rattle.sweeps.specs.served.Plan.{Planned, Holds, Full, Begun, Rested}
+use Rattle.sweeps.proofs.ByteLaws.{set-bytes-ext}
 
 -- the first notes, from sets of all registers
 first-holds : (p : Program) (l : List ℕ) → 0 < p .count → Full l (p .count) → Holds p 0 (set l 0 (p .entry))

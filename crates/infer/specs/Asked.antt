@@ -14,10 +14,10 @@ use Rattle.container.specs.Container.{eight}
 use Rattle.packing.specs.Packing.{word-count, Fitting, container-bytes}
 use Rattle.walks.specs.Walks.{AllReached, Exact}
 use Rattle.walks.specs.Sweeps.{Reports}
-use Rattle.verifier.specs.declared.verdict.Finding.{Finding}
-use Rattle.verifier.specs.Program.{annotation-at, machine, machine-of}
-use Rattle.verifier.specs.Verdict.{finding, no-register, verdict-of}
-use Rattle.verifier.specs.Passed.{ReadBefore, Unreadable, PassedOn}
+use Rattle.safety.specs.declared.verdict.Finding.{Finding}
+use Rattle.safety.specs.Program.{annotation-at, machine, machine-of}
+use Rattle.safety.specs.Verdict.{finding, no-register, verdict-of}
+use Rattle.safety.specs.Passed.{ReadBefore, Unreadable, PassedOn}
 use Rattle.infer.specs.Inference.{unannotated, none-acceptable, infer-outcome, infer-buffer}
 
 -- the check accepts the container of these words, this entry set and these annotations

@@ -5,12 +5,12 @@ use Prim.Native.Nat.{ℕ}
 use lib.ListN.{length}
 use Rattle.bits.specs.Outcomes.{Outcome, gives, refuses, passes, require, _then_, kept-or}
 use Rattle.packing.specs.Packing.{word-count, fitting, container-bytes}
-use Rattle.verifier.specs.declared.verdict.Finding.{Finding}
-use Rattle.verifier.specs.Program.{Program, program-in}
-use Rattle.verifier.specs.Verdict.{Judgement, finding, no-register, first, judge-word, verdict-of}
-use Rattle.infer.specs.declared.answer.Inference.{Inference}
-use Rattle.infer.specs.declared.answer.Inference.the-variants.{Proposed, Refused}
-use Rattle.infer.specs.Sweeps.{sweeps, proposal}
+use Rattle.safety.specs.declared.verdict.Finding.{Finding}
+use Rattle.safety.specs.Program.{Program, program-in}
+use Rattle.safety.specs.Verdict.{Judgement, finding, no-register, first, judge-word, verdict-of}
+use Rattle.sweeps.specs.declared.answer.Inference.{Inference}
+use Rattle.sweeps.specs.declared.answer.Inference.the-variants.{Proposed, Refused}
+use Rattle.sweeps.specs.Sweeps.{sweeps, proposal}
 
 -- the outcome that each answer stands for: the number of sweeps, or a refusal with a check's fields
 abbrev pub inference-outcome : Inference → Outcome Finding ℕ

@@ -7,8 +7,8 @@ use Rattle.bits.specs.Outcomes.{gives, refuses}
 use Rattle.bits.specs.Sets.{Has}
 use Rattle.packing.specs.Packing.{word-count}
 use Rattle.walks.specs.Sweeps.{Reports}
-use Rattle.verifier.specs.Program.{annotation-at, machine}
-use Rattle.infer.specs.Sweeps.{note, set-bytes}
+use Rattle.safety.specs.Program.{annotation-at, machine}
+use Rattle.sweeps.specs.Sweeps.{note, set-bytes}
 use Rattle.infer.specs.Inference.{unannotated, none-acceptable}
 use Rattle.infer.specs.Asked.{Maker}
 

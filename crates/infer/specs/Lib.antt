@@ -1,4 +1,3 @@
-pub mod Sweeps
 pub mod Inference
 pub mod Asked
 pub mod Lazy

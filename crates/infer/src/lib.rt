@@ -1,32 +1,28 @@
 // Inference of annotations (the paper's maker of notes): from words and an entry set to the annotations that name the most.
-use crate::answer::Inference;
-use crate::encode::encode;
-use crate::plan::make_plan;
-use crate::sweeps::rest;
 use container::layout::ANNOTATION_LENGTH;
 use container::layout::MOST_INSTRUCTIONS;
 use container::layout::WORD_LENGTH;
+use flow::NO_REGISTER;
 use packing::fit;
+use safety::verdict::Finding;
+use safety::verdict::Verdict;
+use sweeps::answer::Inference;
+use sweeps::encode::encode;
+use sweeps::plan::make_plan;
+use sweeps::sweeps::rest;
 use verifier::program::judge_words;
-use verifier::verdict::Finding;
-use verifier::verdict::NO_REGISTER;
-use verifier::verdict::Verdict;
 ghost use mathlib.Core.Path.{_≡_};
 ghost use Prim.Native.Nat.{_*_, _<_};
 ghost use lib.ListN.{length};
 ghost use Rattle.bits.specs.Outcomes.{refuses};
 ghost use Rattle.container.specs.Container.{annotation-length};
 ghost use Rattle.packing.specs.Packing.{word-count, Fitting};
-ghost use Rattle.verifier.specs.Program.{Worded, Annotated};
-ghost use Rattle.verifier.specs.Verdict.{finding, no-register};
+ghost use Rattle.safety.specs.Program.{Worded, Annotated};
+ghost use Rattle.safety.specs.Verdict.{finding, no-register};
 ghost use Rattle.infer.specs.Inference.{inference-outcome};
 ghost use Rattle.infer.specs.Asked.{Inferred};
-ghost use Rattle.infer.specs.served.Plan.{Sized, Full, Swept, Handed};
-
-pub mod answer;
-mod encode;
-mod plan;
-mod sweeps;
+ghost use Rattle.infer.specs.served.Handed.{Swept, Handed};
+ghost use Rattle.sweeps.specs.served.Plan.{Sized, Full};
 
 // The numbers of the refusals, by reason.
 const WRONG_LENGTH: u8 = 12;

@@ -17,19 +17,20 @@ use Rattle.container.specs.Container.{most-instructions, count-of, words-of, ei
 use Rattle.container.specs.Opening.{Rejection, open-outcome, Opens}
 use Rattle.container.proofs.OpeningLaws.{sized}
 use Rattle.container.proofs.NumberedLaws.{Unopened, open-numbers}
-use Rattle.verifier.specs.declared.verdict.Finding.{Finding}
-use Rattle.verifier.specs.Program.{Program, program-of, WellFormed}
-use Rattle.verifier.specs.Verdict.{Judgement, first, judge-opening, judge-reading, judge-word, judge-program, verdict-of, all-read}
-use Rattle.verifier.specs.Reasons.{Wrong, entry-lacks, annotation-lacks, runs-off, successor-lacks, Reason, unopened, unreadable, wrong}
-use Rattle.verifier.proofs.VerdictLaws.{first-refused}
-use Rattle.verifier.proofs.ReasonLaws.{reason}
-use Rattle.verifier.proofs.ReadLaws.{formed, all-of, goes-on}
-use Rattle.verifier.proofs.Demand3.{opening-of}
-use Rattle.verifier.specs.Passed.{Unreadable, PassedOn}
-use Rattle.verifier.proofs.PassedLaws.{of-words, passes-on}
+use Rattle.safety.specs.declared.verdict.Finding.{Finding}
+use Rattle.safety.specs.Program.{Program, program-of, WellFormed}
+use Rattle.safety.specs.Verdict.{Judgement, first, judge-opening, judge-reading, judge-word, judge-program, verdict-of, all-read}
+use Rattle.safety.specs.Reasons.{Wrong, entry-lacks, annotation-lacks, runs-off, successor-lacks, Reason, unopened, unreadable, wrong}
+use Rattle.safety.proofs.VerdictLaws.{first-refused}
+use Rattle.safety.proofs.ReasonLaws.{reason}
+use Rattle.safety.proofs.ReadLaws.{formed, all-of, goes-on}
+use Rattle.safety.proofs.Demand3.{opening-of}
+use Rattle.safety.specs.Passed.{Unreadable, PassedOn}
+use Rattle.safety.proofs.PassedLaws.{of-words, passes-on}
 use Rattle.text.specs.Text.{space, line-feed, decimal}
-use Rattle.listing.specs.Listing.{refusal-fields, verdict-line, listing}
-use Rattle.listing.proofs.PlaceLaws.{line-placed, place-there, no-place}
+use Rattle.verdictline.specs.VerdictLine.{refusal-fields, verdict-line}
+use Rattle.listing.specs.Listing.{listing}
+use Rattle.verdictline.proofs.PlaceLaws.{line-placed, place-there, no-place}
 use Rattle.listing.specs.Asked.{Shown, ListedAsAsked}
 use Rattle.listing.proofs.NumberLaws.{opens, reads}
 use Rattle.listing.proofs.ListingLaws.{listing-read, listing-unread}

@@ -15,9 +15,10 @@ use Rattle.container.specs.declared.header.Header.{Header}
 use Rattle.container.specs.Container.{header-length, most-instructions, version, marked, version-of, zero-of, count-of, words-of, container-length}
 use Rattle.container.specs.Opening.{Rejection, unplaced, header-of, open-outcome}
 use Rattle.container.proofs.OpeningLaws.{sized, version-two}
-use Rattle.verifier.specs.Program.{program-of, WellFormed}
-use Rattle.verifier.specs.Verdict.{Judgement, finding, no-register, first, judge-opening, judge-word, judge-program, verdict-of, all-read}
-use Rattle.listing.specs.Listing.{lines, verdict-line, where-read, listing}
+use Rattle.safety.specs.Program.{program-of, WellFormed}
+use Rattle.safety.specs.Verdict.{Judgement, finding, no-register, first, judge-opening, judge-word, judge-program, verdict-of, all-read}
+use Rattle.verdictline.specs.VerdictLine.{verdict-line}
+use Rattle.listing.specs.Listing.{lines, where-read, listing}
 use Rattle.listing.specs.Cut.{longest-container, read-length, FromTheFront}
 use Rattle.listing.proofs.ListingLaws.{listing-unread}
 

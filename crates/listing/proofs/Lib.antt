@@ -3,4 +3,3 @@ pub mod NumberLaws
 pub mod ListingLaws
 pub mod AskedLaws
 pub mod CutLaws
-pub mod PlaceLaws

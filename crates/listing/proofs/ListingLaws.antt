@@ -16,16 +16,17 @@ use Rattle.container.specs.Container.{header-length, count-of, words-of, annota
 use Rattle.container.specs.Opening.{header-of, Opens}
 use Rattle.container.specs.Words.{count-in, open-count}
 use Rattle.container.proofs.OpeningLaws.{sized, opened, words-to}
-use Rattle.verifier.specs.declared.verdict.Finding.{Finding}
-use Rattle.verifier.specs.Program.{program-of, Worded}
-use Rattle.verifier.specs.Verdict.{Judgement, judge-program, verdict-of, all-read}
-use Rattle.verifier.proofs.VerdictLaws.{both}
-use Rattle.verifier.proofs.PassLaws.{worded}
+use Rattle.safety.specs.declared.verdict.Finding.{Finding}
+use Rattle.safety.specs.Program.{program-of, Worded}
+use Rattle.safety.specs.Verdict.{Judgement, judge-program, verdict-of, all-read}
+use Rattle.safety.proofs.VerdictLaws.{both}
+use Rattle.safety.proofs.PassLaws.{worded}
 use Rattle.text.specs.Text.{Put}
-use Rattle.listing.specs.Listing.{lines, verdict-line, lists, listing}
+use Rattle.verdictline.specs.VerdictLine.{verdict-line, lists}
+use Rattle.listing.specs.Listing.{lines, listing}
 use Rattle.text.proofs.TextLaws.{put-next, same-text}
-use Rattle.verifier.proofs.Demand3.{opening-of}
-use Rattle.verifier.proofs.ReadLaws.{goes-on}
+use Rattle.safety.proofs.Demand3.{opening-of}
+use Rattle.safety.proofs.ReadLaws.{goes-on}
 use Rattle.listing.proofs.NumberLaws.{early, late, opens}
 
 module _ (s : List ℕ) where

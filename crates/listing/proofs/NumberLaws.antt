@@ -9,11 +9,11 @@ use Rattle.bits.specs.Outcomes.{refuses, passes, _then_}
 use Rattle.bits.proofs.OutcomeLaws.{then-passed, Refusals, of-then, weaker}
 use Rattle.container.specs.Container.{count-of, words-of}
 use Rattle.container.specs.Opening.{open-outcome}
-use Rattle.verifier.specs.declared.verdict.Finding.{Finding}
-use Rattle.verifier.specs.Program.{program-of}
-use Rattle.verifier.specs.Verdict.{first, judge-opening, judge-word, judge-program, verdict-of, all-read}
-use Rattle.verifier.proofs.VerdictLaws.{both, first-of}
-use Rattle.verifier.proofs.NumberedLaws.{ToldBetween, opened-numbers, words-numbers, program-numbers}
+use Rattle.safety.specs.declared.verdict.Finding.{Finding}
+use Rattle.safety.specs.Program.{program-of}
+use Rattle.safety.specs.Verdict.{first, judge-opening, judge-word, judge-program, verdict-of, all-read}
+use Rattle.safety.proofs.VerdictLaws.{both, first-of}
+use Rattle.safety.proofs.NumberedLaws.{ToldBetween, opened-numbers, words-numbers, program-numbers}
 
 abbrev Early : Finding → Type 0
 Early f = f .number < 20

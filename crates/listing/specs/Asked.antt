@@ -5,12 +5,13 @@ use Prim.Native.Nat.{ℕ, _<_, _≤_}
 use Rattle.bits.specs.Outcomes.{refuses}
 use Rattle.container.specs.Container.{most-instructions, count-of, words-of}
 use Rattle.container.specs.Opening.{Opens}
-use Rattle.verifier.specs.declared.verdict.Finding.{Finding}
-use Rattle.verifier.specs.Program.{WellFormed}
-use Rattle.verifier.specs.Verdict.{verdict-of}
-use Rattle.verifier.specs.Passed.{Unreadable, PassedOn}
+use Rattle.safety.specs.declared.verdict.Finding.{Finding}
+use Rattle.safety.specs.Program.{WellFormed}
+use Rattle.safety.specs.Verdict.{verdict-of}
+use Rattle.safety.specs.Passed.{Unreadable, PassedOn}
 use Rattle.text.specs.Text.{space, line-feed, decimal}
-use Rattle.listing.specs.Listing.{lines, refusal-fields, verdict-line}
+use Rattle.verdictline.specs.VerdictLine.{refusal-fields, verdict-line}
+use Rattle.listing.specs.Listing.{lines}
 
 -- the digits of a refusal say its numbers whole: two for the number, four for the index, two for the register, two for the place
 pub record Shown (f : Finding) : Type 0 where

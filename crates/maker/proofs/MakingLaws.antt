@@ -13,8 +13,8 @@ use Rattle.bits.proofs.OutcomeLaws.{never, then-gives, required}
 use Rattle.container.specs.Container.{container-length}
 use Rattle.packing.specs.Packing.{word-count, fitting, Fitting, pack-buffer}
 use Rattle.packing.proofs.PackLaws.{fitting-of, fitting-to, packs}
-use Rattle.verifier.specs.declared.verdict.Finding.{Finding}
-use Rattle.verifier.specs.Verdict.{finding, no-register}
+use Rattle.safety.specs.declared.verdict.Finding.{Finding}
+use Rattle.safety.specs.Verdict.{finding, no-register}
 use Rattle.infer.specs.Inference.{infer-outcome}
 use Rattle.infer.specs.Asked.{Inferred}
 use Rattle.input.specs.declared.Input.{Input}

@@ -8,8 +8,8 @@ use Rattle.bits.specs.Bytes.{little}
 use Rattle.bits.specs.Outcomes.{Outcome, require, _then_}
 use Rattle.container.specs.Container.{word-length, annotation-length, most-instructions}
 use Rattle.packing.specs.Packing.{word-count, container-bytes}
-use Rattle.verifier.specs.declared.verdict.Finding.{Finding}
-use Rattle.verifier.specs.Verdict.{finding, no-register}
+use Rattle.safety.specs.declared.verdict.Finding.{Finding}
+use Rattle.safety.specs.Verdict.{finding, no-register}
 use Rattle.infer.specs.Inference.{infer-outcome, infer-buffer}
 use Rattle.input.specs.declared.Input.{Input}
 use Rattle.input.specs.declared.Input.the-variants.{Bytes}

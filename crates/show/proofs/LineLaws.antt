@@ -17,7 +17,7 @@ use Rattle.record.specs.declared.answer.Refusal.{Refusal}
 use Rattle.container.specs.Container.{most-instructions}
 use Rattle.text.specs.Text.{space, line-feed, decimal, hex, Put}
 use Rattle.text.proofs.TextLaws.{put-nothing}
-use Rattle.wordtext.specs.Registers.{registers-text}
+use Rattle.registertext.specs.Registers.{registers-text}
 use Rattle.wordtext.specs.Columns.{jumps, lands, column-of}
 use Rattle.show.specs.Lines.{number-in, column-at, widest, padded, leads-in, leads-to, targeted, mark-text, line-text, line, lines, title}
 use Rattle.show.specs.served.Marks.{marked-at, marks-of}

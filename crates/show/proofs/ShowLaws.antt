@@ -7,9 +7,9 @@ use Rattle.rows.specs.Names.{ascii}
 use Rattle.container.specs.declared.header.Header.{Header}
 use Rattle.container.specs.Container.{words-of, annotations-of}
 use Rattle.container.specs.Opening.{Rejection, open-outcome}
-use Rattle.verifier.specs.Verdict.{Judgement, verdict-of}
+use Rattle.safety.specs.Verdict.{Judgement, verdict-of}
 use Rattle.text.specs.Text.{line-feed, digits, digit-count, number-text}
-use Rattle.wordtext.specs.Registers.{registers-text}
+use Rattle.registertext.specs.Registers.{registers-text}
 use Rattle.show.specs.Lines.{widest, title, lines}
 use Rattle.verdicttext.specs.Words.{fault-line, fault-index, verdict-text}
 use Rattle.show.specs.Show.{head, program-text, opened-text, shown}

@@ -13,7 +13,7 @@ use Rattle.record.specs.declared.answer.Refusal.{Refusal}
 use Rattle.reader.specs.Reader.{read-number}
 use Rattle.container.specs.Container.{eight}
 use Rattle.text.specs.Text.{space, line-feed, decimal, hex}
-use Rattle.wordtext.specs.Registers.{registers-text, longest-registers}
+use Rattle.registertext.specs.Registers.{registers-text, longest-registers}
 use Rattle.wordtext.specs.Columns.{jumps, lands, column-of, longest-column}
 
 -- the word at index i of some words, or the note at index i of some notes

@@ -6,9 +6,9 @@ use Rattle.rows.specs.Names.{ascii}
 use Rattle.container.specs.declared.header.Header.{Header}
 use Rattle.container.specs.Container.{most-instructions, version, words-of, annotations-of}
 use Rattle.container.specs.Opening.{Rejection, open-outcome}
-use Rattle.verifier.specs.Verdict.{Judgement, verdict-of}
+use Rattle.safety.specs.Verdict.{Judgement, verdict-of}
 use Rattle.text.specs.Text.{line-feed, number-text}
-use Rattle.wordtext.specs.Registers.{registers-text, longest-registers}
+use Rattle.registertext.specs.Registers.{registers-text, longest-registers}
 use Rattle.wordtext.specs.Columns.{longest-column}
 use Rattle.show.specs.Lines.{widest, title, lines, longest-line}
 use Rattle.verdicttext.specs.Words.{fault-line, fault-index, verdict-text, longest-fault, longest-verdict}

@@ -8,18 +8,18 @@ use container::layout::HEADER_LENGTH;
 use container::layout::MOST_INSTRUCTIONS;
 use container::layout::WORD_LENGTH;
 use container::parts::annotations;
+use registertext::put_registers;
+use safety::verdict::Verdict;
 use text::put::put_enclosed;
 use text::put::put_text;
 use verdicttext::words::LONGEST_FAULT;
 use verdicttext::words::put_verdict;
-use verifier::verdict::Verdict;
-use wordtext::registers::put_registers;
 ghost use mathlib.Core.Path.{_≡_};
 ghost use Prim.Native.Nat.{_≤_};
 ghost use lib.ListN.{length};
 ghost use Rattle.bits.specs.Outcomes.{gives};
 ghost use Rattle.container.specs.Opening.{open-outcome};
-ghost use Rattle.verifier.specs.Verdict.{verdict-outcome};
+ghost use Rattle.safety.specs.Verdict.{verdict-outcome};
 ghost use Rattle.text.specs.Text.{Put};
 ghost use Rattle.show.specs.Show.{head, opened-text, shown, longest-head, longest-opened, longest-shown};
 
@@ -28,7 +28,7 @@ mod program;
 mod targets;
 
 // The most bytes that these have.
-const HEAD: usize = 16 + 5 + 1 + 14 + 4 + 1 + 52 + wordtext::registers::LONGEST + 2;
+const HEAD: usize = 16 + 5 + 1 + 14 + 4 + 1 + 52 + registertext::LONGEST + 2;
 
 const TITLE: usize = 25 + wordtext::column::LONGEST + 6 + 1;
 

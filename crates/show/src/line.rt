@@ -1,19 +1,19 @@
 // The lines for the words of a program.
 use bits::bytes::load64;
 use container::layout::WORD_LENGTH;
+use registertext::put_registers;
 use text::put::put_byte;
 use text::put::put_digits;
 use text::put::put_spaces;
 use text::put::put_text;
 use wordtext::column::put_column;
-use wordtext::registers::put_registers;
 ghost use mathlib.Core.Path.{_≡_};
 ghost use mathlib.Core.List.{[], _∷_, _++_};
 ghost use Prim.Native.Nat.{_*_, _<_, _≤_, max};
 ghost use lib.ListN.{length};
 ghost use Rattle.rows.specs.Names.{ascii};
 ghost use Rattle.container.specs.Container.{most-instructions};
-ghost use Rattle.verifier.specs.Program.{Worded};
+ghost use Rattle.safety.specs.Program.{Worded};
 ghost use Rattle.text.specs.Text.{decimal, hex, Put};
 ghost use Rattle.wordtext.specs.Columns.{column-of, longest-column};
 ghost use Rattle.show.specs.Lines.{number-in, widest, padded, mark-text, line-text, longest-line};
@@ -28,7 +28,7 @@ pub(crate) const LONGEST: usize = 1
     + 2
     + wordtext::column::LONGEST
     + 2
-    + wordtext::registers::LONGEST
+    + registertext::LONGEST
     + 1;
 
 // The word at index i of n words, or the note at index i of n notes.

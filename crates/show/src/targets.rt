@@ -9,7 +9,7 @@ ghost use mathlib.Core.Path.{_≡_};
 ghost use Prim.Native.Nat.{_≤_};
 ghost use Rattle.reader.specs.Reader.{read-number};
 ghost use Rattle.container.specs.Container.{most-instructions};
-ghost use Rattle.verifier.specs.Program.{Worded};
+ghost use Rattle.safety.specs.Program.{Worded};
 ghost use Rattle.show.specs.Lines.{leads-in};
 ghost use Rattle.show.specs.served.Marks.{marked-at, marks-of};
 

@@ -3,8 +3,8 @@
 ghost use Prim.Native.Nat.{_+_, _<_, _≤_};
 ghost use lib.ListN.{length};
 use bits::bytes::wide;
-use verifier::verdict::Finding;
-use verifier::verdict::Verdict;
+use safety::verdict::Finding;
+use safety::verdict::Verdict;
 use verifier::verify;
 
 const LABEL: usize = 32;

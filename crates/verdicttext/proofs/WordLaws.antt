@@ -5,8 +5,8 @@ use Prim.Native.Nat.{ℕ}
 use borrow.Author.Tests.{eq-eqb, ne-eqb}
 use Rattle.bits.specs.Outcomes.{refuses, passes}
 use Rattle.rows.specs.Names.{ascii}
-use Rattle.verifier.specs.declared.verdict.Finding.{Finding}
-use Rattle.verifier.specs.Verdict.{Judgement}
+use Rattle.safety.specs.declared.verdict.Finding.{Finding}
+use Rattle.safety.specs.Verdict.{Judgement}
 use Rattle.text.specs.Text.{line-feed, number-text, Put}
 use Rattle.text.proofs.TextLaws.{put-nothing}
 use Rattle.verdicttext.specs.Words.{why-text, fault-line, instruction-fault, refusal-text, verdict-text}

@@ -6,8 +6,8 @@ use lib.ListN.{replicate}
 use Rattle.bits.specs.Fields.{choose}
 use Rattle.bits.specs.Outcomes.{gives, refuses}
 use Rattle.rows.specs.Names.{ascii}
-use Rattle.verifier.specs.declared.verdict.Finding.{Finding}
-use Rattle.verifier.specs.Verdict.{Judgement}
+use Rattle.safety.specs.declared.verdict.Finding.{Finding}
+use Rattle.safety.specs.Verdict.{Judgement}
 use Rattle.text.specs.Text.{space, line-feed, number-text}
 
 -- what is wrong with the instruction that a refusal names (01, Numbers given back: 20 to 23; the last case is 2 to 7)

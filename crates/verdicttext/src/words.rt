@@ -1,15 +1,15 @@
 // A verdict in words.
+use safety::verdict::Finding;
+use safety::verdict::Verdict;
 use text::put::put_byte;
 use text::put::put_enclosed;
 use text::put::put_spaces;
 use text::put::put_text;
-use verifier::verdict::Finding;
-use verifier::verdict::Verdict;
 ghost use mathlib.Core.Path.{_≡_};
 ghost use Prim.Native.Nat.{_≤_};
 ghost use lib.ListN.{length};
 ghost use Rattle.bits.specs.Outcomes.{refuses};
-ghost use Rattle.verifier.specs.Verdict.{verdict-outcome};
+ghost use Rattle.safety.specs.Verdict.{verdict-outcome};
 ghost use Rattle.text.specs.Text.{Put};
 ghost use Rattle.verdicttext.specs.Words.{why-text, fault-line, fault-index, instruction-fault, refusal-text, verdict-text, longest-why, longest-fault, longest-refusal, longest-verdict};
 

@@ -1,23 +1,21 @@
 // The verifier (the paper's check): whether a container's annotations prove that no walk reads a register that is not defined there.
 use crate::program::judge_words;
 use crate::program::read_from;
-use crate::verdict::NO_REGISTER;
-use crate::verdict::Verdict;
-use crate::verdict::refused;
 use container::header::Opening;
 use container::header::open;
 use container::layout::HEADER_LENGTH;
 use container::layout::WORD_LENGTH;
 use container::parts::annotations;
+use flow::NO_REGISTER;
+use safety::verdict::Verdict;
+use safety::verdict::refused;
 ghost use mathlib.Core.Path.{_≡_};
 ghost use Rattle.bits.specs.Outcomes.{passes};
-ghost use Rattle.verifier.specs.Verdict.{verdict-outcome, verdict-of, all-read};
-ghost use Rattle.verifier.specs.Demand3.{Demand3At};
-ghost use Rattle.verifier.specs.Reasons.{Grounded};
+ghost use Rattle.safety.specs.Verdict.{verdict-outcome, verdict-of, all-read};
+ghost use Rattle.safety.specs.Demand3.{Demand3At};
+ghost use Rattle.safety.specs.Reasons.{Grounded};
 
-pub mod flow;
 pub mod program;
-pub mod verdict;
 
 // Verifies a container.
 pub fn verify(bytes: &[u8]) -> Verdict

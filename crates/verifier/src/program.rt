@@ -1,23 +1,23 @@
 // One pass over the words of a program and its annotations.
-use crate::flow::annotation_at;
-use crate::flow::judge_flow;
-use crate::verdict::Finding;
-use crate::verdict::NO_REGISTER;
-use crate::verdict::Verdict;
-use crate::verdict::none_missing;
-use crate::verdict::refused;
 use codec::read_word;
 use container::layout::WORD_LENGTH;
+use flow::NO_REGISTER;
+use flow::annotation_at;
+use flow::judge_flow;
 use reader::answer::Reading;
 use record::instruction::Instruction;
+use safety::verdict::Finding;
+use safety::verdict::Verdict;
+use safety::verdict::none_missing;
+use safety::verdict::refused;
 ghost use mathlib.Core.Path.{_≡_};
 ghost use Prim.Native.Nat.{_*_, _<_, _≤_};
 ghost use Rattle.bits.specs.Outcomes.{refuses, passes, _then_};
 ghost use Rattle.reader.specs.Answers.{reading};
 ghost use Rattle.reader.specs.Reader.{read};
 ghost use Rattle.container.specs.Container.{eight};
-ghost use Rattle.verifier.specs.Program.{program-in, annotation-at, Worded, Annotated};
-ghost use Rattle.verifier.specs.Verdict.{verdict-outcome, first, judge-word, judge-index, judge-program};
+ghost use Rattle.safety.specs.Program.{program-in, annotation-at, Worded, Annotated};
+ghost use Rattle.safety.specs.Verdict.{verdict-outcome, first, judge-word, judge-index, judge-program};
 
 // The number of the refusal where the first annotation names what is not defined at entry.
 const ENTRY_MISSING: u8 = 23;

@@ -15,7 +15,8 @@ use Rattle.record.specs.Registers.{ends, branches}
 use Rattle.text.specs.Text.{decimal, number-text, Put}
 use Rattle.text.proofs.TextLaws.{put-nothing}
 use Rattle.leftout.specs.LeftOut.{left-out}
-use Rattle.wordtext.specs.Columns.{jumps, lands, arrow-text, omitted-text, stray-text, reason-text}
+use Rattle.lacks.specs.Lacks.{stray-text}
+use Rattle.wordtext.specs.Columns.{jumps, lands, arrow-text, omitted-text, reason-text}
 
 -- a branch, and no `end`
 pub both : {a b c : Bool} → a ≡ true → c ≡ b → not c ≡ (a && not b)

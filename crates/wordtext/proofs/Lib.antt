@@ -1,3 +1,1 @@
-pub mod RegisterLaws
-pub mod StrayLaws
 pub mod ColumnLaws

@@ -6,18 +6,16 @@ use lib.Dec.{eqb, ltb}
 use lib.IntN.{pos, _+ℤ_}
 use Rattle.bits.specs.Fields.{choose}
 use Rattle.bits.specs.Outcomes.{Outcome, gives, refuses}
-use Rattle.rows.specs.Names.{ascii, name-of}
-use Rattle.rows.specs.Rows.{rows}
-use Rattle.rows.specs.Layout.{find}
+use Rattle.rows.specs.Names.{ascii}
 use Rattle.record.specs.declared.instruction.Instruction.{Instruction}
 use Rattle.record.specs.declared.answer.Refusal.{Refusal}
 use Rattle.record.specs.Registers.{ends, branches}
 use Rattle.reader.specs.Reader.{read-number}
-use Rattle.verifier.specs.Program.{landing}
+use Rattle.safety.specs.Program.{landing}
 use Rattle.text.specs.Text.{decimal, number-text}
 use Rattle.disasm.specs.Assembly.{instruction-text, longest-text}
 use Rattle.leftout.specs.LeftOut.{left-out}
-use Rattle.wordtext.specs.Lacks.{lack-at, lack-text}
+use Rattle.lacks.specs.Lacks.{stray-text}
 
 -- a branch that can be taken: with flow `end` nothing follows (01, How registers are held)
 abbrev pub jumps : Instruction → Bool
@@ -37,11 +35,6 @@ arrow-text n i x = choose (jumps x) (ascii " -> " ++ place-text n (lands n i x))
 abbrev pub omitted-text : List ℕ → List ℕ
 omitted-text [] = []
 omitted-text (b ∷ bs) = ascii "; " ++ (b ∷ bs) ++ ascii ", left out by the scope"
-
--- the text for bit p, the lowest that is 1 and unassigned in the word w (02, Item 5): the bit, the name of the word's row, what that lacks there
-unfoldable pub stray-text : ℕ → ℕ → List ℕ
-stray-text w p =
-    ascii "bit " ++ number-text 10 3 p ++ ascii " is 1, where " ++ name-of (find rows 0 w) ++ ascii " has " ++ lack-text (lack-at p)
 
 -- why the word w is refused with a number at a place (01, Numbers given back: 2 to 6; the last case is 7)
 unfoldable pub reason-text : ℕ → ℕ → ℕ → List ℕ

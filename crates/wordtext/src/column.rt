@@ -1,6 +1,7 @@
 // What stands for a word: the text of its instruction, or why it does not read.
-use crate::stray::put_stray;
 use disasm::put_instruction;
+use flow::branch_target;
+use lacks::put_stray;
 use leftout::put_left_out;
 use reader::answer::Reading;
 use reader::read_number;
@@ -10,7 +11,6 @@ use text::put::put_digits;
 use text::put::put_enclosed;
 use text::put::put_labelled;
 use text::put::put_text;
-use verifier::flow::branch_target;
 ghost use mathlib.Core.Path.{_≡_};
 ghost use mathlib.Core.List.{_++_};
 ghost use Prim.Native.Nat.{_+_, _≤_};

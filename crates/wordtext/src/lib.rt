@@ -1,4 +1,2 @@
-// What a person is shown for a word of a program, and for a set of registers.
+// What a person is shown for a word of a program.
 pub mod column;
-pub mod registers;
-mod stray;

@@ -1,7 +1,7 @@
 use mathlib.Core.Path.{sym, ap₂}
 use Prim.Native.Nat.{ℕ, _+_, _*_, _^_}
-use Rattle.diff.specs.declared.answer.Side.{Side}
-use Rattle.capi.specs.Codes.{side-number}
+use Rattle.differences.specs.declared.answer.Side.{Side}
+use Rattle.codes.specs.Codes.{side-number}
 use borrow.Author.Needs.{needs}
 use Rattle.capi.proofs.unread_code.Statement.{statement}
 use Rattle.capi.proofs.unread_code.Tie as tie

@@ -1,10 +1,10 @@
 use mathlib.Core.Path.{sym, ap, _∙_}
 use denote.Ref.{now}
-use Rattle.verifier.specs.declared.verdict.Verdict.{Verdict}
-use Rattle.verifier.specs.Verdict.{verdict-outcome}
-use Rattle.capi.specs.Codes.{verdict-code}
-use Rattle.capi.proofs.CodeLaws.{index-small}
-use Rattle.capi.proofs.PromiseLaws.{demanded}
+use Rattle.safety.specs.declared.verdict.Verdict.{Verdict}
+use Rattle.safety.specs.Verdict.{verdict-outcome}
+use Rattle.codes.specs.Codes.{verdict-code}
+use Rattle.codes.proofs.CodeLaws.{index-small}
+use Rattle.codes.proofs.PromiseLaws.{demanded}
 use borrow.Author.Needs.{needs}
 use Rattle.capi.proofs.vsp_check.Statement.{statement}
 use Rattle.capi.proofs.vsp_check.Tie as tie

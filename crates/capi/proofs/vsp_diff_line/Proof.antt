@@ -5,12 +5,12 @@ use Prim.Native.Nat.{ℕ}
 use native.Mathlib.Omega.{arith}
 use denote.Ref.{now}
 use Rattle.bits.specs.Outcomes.{Outcome}
-use Rattle.diff.specs.declared.line.Line.{Line}
-use Rattle.diff.specs.declared.answer.Unread.{Unread}
-use Rattle.diff.specs.Answers.{compared-outcome}
+use Rattle.differences.specs.declared.line.Line.{Line}
+use Rattle.differences.specs.declared.answer.Unread.{Unread}
+use Rattle.differences.specs.Answers.{compared-outcome}
 use Rattle.diff.proofs.AnswerLaws.{line-index}
-use Rattle.diff.proofs.RefusalLaws.{line-early}
-use Rattle.capi.specs.Codes.{line-code, line-after}
+use Rattle.differences.proofs.RefusalLaws.{line-early}
+use Rattle.codes.specs.Codes.{line-code, line-after}
 use borrow.Author.Needs.{needs}
 use Rattle.capi.proofs.vsp_diff_line.Statement.{statement}
 use Rattle.capi.proofs.vsp_diff_line.Tie as tie

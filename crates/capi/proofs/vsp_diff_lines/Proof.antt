@@ -1,10 +1,10 @@
 use mathlib.Core.Path.{sym, ap, _∙_}
 use native.Mathlib.Omega.{arith}
 use denote.Ref.{now}
-use Rattle.diff.specs.Answers.{listed-outcome}
+use Rattle.differences.specs.Answers.{listed-outcome}
 use Rattle.diff.proofs.AnswerLaws.{list-few}
-use Rattle.diff.proofs.RefusalLaws.{list-early}
-use Rattle.capi.specs.Codes.{list-code}
+use Rattle.differences.proofs.RefusalLaws.{list-early}
+use Rattle.codes.specs.Codes.{list-code}
 use borrow.Author.Needs.{needs}
 use Rattle.capi.proofs.vsp_diff_lines.Statement.{statement}
 use Rattle.capi.proofs.vsp_diff_lines.Tie as tie

@@ -2,8 +2,8 @@ use mathlib.Core.Path.{_≡_, refl, ap}
 use native.Mathlib.Omega.{arith}
 use Prim.Native.Nat.{_<_}
 use Rattle.infer.specs.Inference.{inference-outcome}
-use Rattle.capi.proofs.CodeLaws.{maker-index-small, sweeps-small}
-use Rattle.capi.proofs.AnswerLaws.{proposed}
+use Rattle.codes.proofs.CodeLaws.{maker-index-small, sweeps-small}
+use Rattle.codes.proofs.AnswerLaws.{proposed}
 use borrow.Author.Needs.{needs}
 use Rattle.capi.proofs.vsp_infer.Statement.{statement}
 use Rattle.capi.proofs.vsp_infer.Tie as tie

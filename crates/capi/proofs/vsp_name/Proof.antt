@@ -3,7 +3,7 @@ use borrow.Author.Needs.{needs}
 use mathlib.Core.Path.{_≡_, ap, _∙_}
 use native.Mathlib.Omega.{arith}
 use denote.Ref.{now}
-use Rattle.capi.proofs.TextLaws.{name-put, nameless}
+use Rattle.codes.proofs.TextLaws.{name-put, nameless}
 use Rattle.capi.proofs.vsp_name.Statement.{statement}
 use Rattle.capi.proofs.vsp_name.Tie as tie
 

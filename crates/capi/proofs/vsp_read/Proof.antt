@@ -1,7 +1,7 @@
 use denote.Ref.{now}
 use mathlib.Core.Path.{sym, ap, _∙_}
 use Rattle.reader.specs.Answers.{reading}
-use Rattle.capi.proofs.AnswerLaws.{made, declined}
+use Rattle.codes.proofs.AnswerLaws.{made, declined}
 use borrow.Author.Needs.{needs}
 use Rattle.capi.proofs.vsp_read.Statement.{statement}
 use Rattle.capi.proofs.vsp_read.Tie as tie

@@ -1,7 +1,7 @@
 use mathlib.Core.Path.{sym, ap, _∙_}
 use Rattle.lookup.specs.Opcodes.{row-found}
 use Rattle.lookup.specs.declared.opcodes.RowFound.{RowFound}
-use Rattle.capi.specs.Codes.{row-code}
+use Rattle.codes.specs.Codes.{row-code}
 use borrow.Author.Needs.{needs}
 use Rattle.capi.proofs.vsp_row_of.Statement.{statement}
 use Rattle.capi.proofs.vsp_row_of.Tie as tie

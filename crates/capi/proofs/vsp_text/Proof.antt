@@ -4,7 +4,7 @@ use Rattle.text.proofs.TextLaws.{same-text}
 use Rattle.disasm.specs.Assembly.{instruction-text}
 use mathlib.Core.Path.{_≡_, ap, _∙_}
 use native.Mathlib.Omega.{arith}
-use Rattle.capi.proofs.TextLaws.{terminated}
+use Rattle.codes.proofs.TextLaws.{terminated}
 use borrow.Author.Needs.{needs}
 use Rattle.capi.proofs.vsp_text.Statement.{statement}
 use Rattle.capi.proofs.vsp_text.Tie as tie

@@ -5,7 +5,7 @@ use Rattle.rows.specs.Rows.{row-count}
 use Rattle.writer.specs.Answers.{writing}
 use Rattle.writer.specs.Writer.{write, stored}
 use Rattle.record.specs.declared.instruction.Instruction.{Instruction}
-use Rattle.capi.proofs.AnswerLaws.{wrong-buffer, no-row, not-0, done, unwritten}
+use Rattle.codes.proofs.AnswerLaws.{wrong-buffer, no-row, not-0, done, unwritten}
 use borrow.Author.Needs.{needs}
 use Rattle.capi.proofs.vsp_write.Statement.{statement}
 use Rattle.capi.proofs.vsp_write.Tie as tie

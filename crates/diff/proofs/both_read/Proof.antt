@@ -1,6 +1,6 @@
 use mathlib.Core.Path.{sym, ap, _∙_}
 use denote.Ref.{now}
-use Rattle.verifier.specs.Verdict.{verdict-outcome}
+use Rattle.safety.specs.Verdict.{verdict-outcome}
 use Rattle.diff.proofs.AnswerLaws.{first-bad, second-bad, none-bad}
 use borrow.Author.Needs.{needs}
 use Rattle.diff.proofs.both_read.Statement.{statement}

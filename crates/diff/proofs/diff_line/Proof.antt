@@ -2,7 +2,7 @@ use mathlib.Core.Path.{_≡_, sym, ap, _∙_}
 use denote.Ref.{now}
 use borrow.Author.Needs.{needs}
 use Rattle.bits.specs.Outcomes.{passes}
-use Rattle.diff.specs.Answers.{ready-outcome, both-read}
+use Rattle.differences.specs.Answers.{ready-outcome, both-read}
 use Rattle.diff.proofs.AnswerLaws.{counted-by, line-told, line-untold}
 use Rattle.diff.proofs.diff_line.Statement.{statement}
 use Rattle.diff.proofs.diff_line.Tie as tie

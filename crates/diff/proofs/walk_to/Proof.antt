@@ -8,10 +8,10 @@ use denote.Ref.{now}
 use borrow.Author.Needs.{needs}
 use Rattle.bits.specs.Lists.{kth}
 use Rattle.bits.specs.Outcomes.{Outcome, gives}
-use Rattle.diff.specs.declared.answer.Unread.{Unread}
-use Rattle.diff.specs.declared.line.Line.{Line}
+use Rattle.differences.specs.declared.answer.Unread.{Unread}
+use Rattle.differences.specs.declared.line.Line.{Line}
 use Rattle.diff.specs.declared.cursor.Step.{Step}
-use Rattle.diff.specs.Differences.{differences}
+use Rattle.differences.specs.Differences.{differences}
 use Rattle.diff.specs.served.Cursor.{remaining, stepped}
 use Rattle.diff.proofs.WalkLaws.{from-start}
 use Rattle.diff.proofs.walk_to.Statement.{statement}

@@ -1,59 +1,20 @@
--- The list of differences as it is walked: field by field through the instructions that both have, and then part by part, where a part is an
--- extra instruction, the entry sets, or an annotation that both have.
+-- The list of differences as it is walked: field by field through the instructions that both have, and then part by part.
 use mathlib.Core.Path.{_≡_}
 use mathlib.Core.Bool.{Bool, true, false, not}
 use mathlib.Core.List.{List, [], _∷_, _++_}
 use Prim.Native.Nat.{ℕ, _+_, _-_, _<_, _≤_, max}
-use lib.Dec.{eqb, ltb}
+use lib.Dec.{eqb}
 use lib.ListN.{getD}
-use Rattle.bits.specs.Fields.{choose}
 use Rattle.bits.specs.Sets.{lowest-from}
-use Rattle.container.specs.Container.{count-of}
-use Rattle.verifier.specs.Program.{WellFormed}
-use Rattle.diff.specs.declared.line.What.the-variants.{Row}
-use Rattle.diff.specs.declared.line.Line.{Line}
+use Rattle.differences.specs.declared.line.What.the-variants.{Row}
+use Rattle.differences.specs.declared.line.Line.{Line}
 use Rattle.diff.specs.declared.cursor.At.{At}
 use Rattle.diff.specs.declared.cursor.Step.{Step}
 use Rattle.diff.specs.declared.cursor.Step.the-variants.{Told, End}
-use Rattle.diff.specs.declared.single.Single.{Single}
-use Rattle.diff.specs.declared.single.Single.the-variants.{Told as told, Nothing}
-use Rattle.diff.specs.Records.{fields, field-count}
-use Rattle.diff.specs.Differences.{line, where-differs, lines-from, shared, instruction-lines, removed-line, added-line, entry-lines, note-lines}
-
--- two containers that open and read,
-pub record Both (a b : List ℕ) : Type 0 where
-  pub first : WellFormed a
-  pub second : WellFormed b
-
--- and have n and m instructions
-pub record Counted (a : List ℕ) (n : ℕ) (b : List ℕ) (m : ℕ) : Type 0 where
-  pub both : Both a b
-  pub first-count : n ≡ count-of a
-  pub second-count : m ≡ count-of b
-
--- how many instructions the longer one has
-abbrev pub longer : List ℕ → List ℕ → ℕ
-longer a b = max (count-of a) (count-of b)
-
--- how many parts there are, counted with the instructions that both have
-abbrev pub part-count : List ℕ → List ℕ → ℕ
-part-count a b = longer a b + 1 + shared a b
-
--- the lines of an answer about one part
-abbrev pub single-told : Single → List Line
-single-told (told l) = l ∷ []
-single-told Nothing = []
-
--- part p, after the instructions that both have
-unfoldable pub single-lines : List ℕ → List ℕ → ℕ → List Line
-single-lines a b p =
-    choose (ltb p (count-of a)) (removed-line a p)
-    (choose (ltb p (count-of b)) (added-line b p)
-    (choose (eqb p (longer a b)) (entry-lines a b) (note-lines a b (p - longer a b - 1))))
-
--- the parts from p on
-unfoldable pub singles-from : List ℕ → List ℕ → ℕ → List Line
-singles-from a b p = lines-from (single-lines a b) p (part-count a b - p)
+use Rattle.diffparts.specs.declared.single.Single.the-variants.{Told as told}
+use Rattle.differences.specs.Records.{fields, field-count}
+use Rattle.differences.specs.Differences.{line, where-differs, lines-from, shared, instruction-lines}
+use Rattle.diffparts.specs.served.Parts.{singles-from}
 
 -- field f of instruction i, where xs and ys are what it holds in the first container and in the second
 abbrev pub field-line : ℕ → List ℕ → List ℕ → ℕ → List Line

@@ -1,6 +1,6 @@
 use mathlib.Core.Path.{sym, ap, _∙_}
 use denote.Ref.{now}
-use Rattle.diff.specs.Answers.{ready-outcome}
+use Rattle.differences.specs.Answers.{ready-outcome}
 use Rattle.diff.proofs.AnswerLaws.{are-both}
 use Rattle.differ.proofs.ComparingLaws.{unready}
 use borrow.Author.Needs.{needs}

@@ -5,11 +5,11 @@ use denote.Ref.{now}
 use lib.ListN.{length, drop}
 use borrow.Author.Needs.{needs}
 use Rattle.diff.specs.declared.cursor.Step.{Step}
-use Rattle.diff.specs.Differences.{differences}
-use Rattle.diff.specs.Numbers.{most-lines}
+use Rattle.differences.specs.Differences.{differences}
+use Rattle.differences.specs.Numbers.{most-lines}
 use Rattle.diff.specs.served.Cursor.{remaining, stepped}
 use Rattle.diff.proofs.WalkLaws.{from-start}
-use Rattle.diff.proofs.FillLaws.{few-lines}
+use Rattle.diff.proofs.FewLaws.{few-lines}
 use Rattle.differ.proofs.ComparingLaws.{line-in, count-in, at-line, at-end}
 use Rattle.differ.proofs.walk.Statement.{statement}
 use Rattle.differ.proofs.walk.Tie as tie

@@ -2,9 +2,9 @@ use mathlib.Core.Path.{_≡_, sym, ap, _∙_}
 use native.Mathlib.Omega.{arith}
 use denote.Ref.{now}
 use Rattle.bits.specs.Outcomes.{passes}
-use Rattle.diff.specs.Answers.{ready-outcome, both-read}
+use Rattle.differences.specs.Answers.{ready-outcome, both-read}
 use Rattle.diff.proofs.AnswerLaws.{counted-by, list-told, list-untold}
-use Rattle.diff.proofs.FillLaws.{front-placed}
+use Rattle.difflist.proofs.FillLaws.{front-placed}
 use borrow.Author.Needs.{needs}
 use Rattle.difflist.proofs.diff_lines.Statement.{statement}
 use Rattle.difflist.proofs.diff_lines.Tie as tie

@@ -1,6 +1,6 @@
 use mathlib.Core.Path.{ap, _∙_}
 use denote.Ref.{now}
-use Rattle.verifier.specs.Verdict.{verdict-outcome}
+use Rattle.safety.specs.Verdict.{verdict-outcome}
 use Rattle.infer.proofs.ProposeLaws.{hands-over, holds-back, copied-all}
 use borrow.Author.Needs.{needs}
 use Rattle.infer.proofs.hand_over.Statement.{statement}

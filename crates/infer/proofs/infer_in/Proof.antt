@@ -2,9 +2,9 @@ use mathlib.Core.Path.{ap, subst}
 use Prim.Native.Nat.{ℕ}
 use denote.Ref.{now}
 use Rattle.bits.specs.Outcomes.{Outcome}
-use Rattle.verifier.specs.declared.verdict.Finding.{Finding}
+use Rattle.safety.specs.declared.verdict.Finding.{Finding}
 use Rattle.infer.specs.Inference.{inference-outcome}
-use Rattle.infer.specs.served.Plan.{Swept}
+use Rattle.infer.specs.served.Handed.{Swept}
 use Rattle.infer.proofs.InferLaws.{unread, checked}
 use borrow.Author.Needs.{needs}
 use Rattle.infer.proofs.infer_in.Statement.{statement}

@@ -1,16 +1,16 @@
 use mathlib.Core.Path.{refl, sym, ap, _∙_}
 use Prim.Native.Nat.{ℕ, _*_}
 use denote.Ref.{now}
-use Rattle.verifier.specs.Verdict.{verdict-outcome}
+use Rattle.safety.specs.Verdict.{verdict-outcome}
 use Rattle.infer.proofs.ProposeLaws.{P, begins, stored-long, proposes, refuses-word}
 use borrow.Author.Needs.{needs}
 use Rattle.infer.proofs.sweep_words.Statement.{statement}
 use Rattle.infer.proofs.sweep_words.Tie as tie
 use Rattle.infer.proofs.sweep_words.Reads as reads
 use Rattle.infer.proofs.sweep_words.Lts as lts
-use Rattle.infer.proofs.encode.encode.Reads as encode-reads
-use Rattle.infer.proofs.plan.make_plan.Reads as make-plan-reads
-use Rattle.infer.proofs.sweeps.rest.Reads as rest-reads
+use Rattle.sweeps.proofs.encode.encode.Reads as encode-reads
+use Rattle.sweeps.proofs.plan.make_plan.Reads as make-plan-reads
+use Rattle.sweeps.proofs.sweeps.rest.Reads as rest-reads
 
 make-plan-requires : tie.Need-make-plan-requires
 make-plan-requires c κs = search needs

@@ -8,14 +8,15 @@ use Rattle.bits.specs.Outcomes.{passes}
 use Rattle.container.specs.Container.{count-of, words-of}
 use Rattle.container.specs.Opening.{Opens}
 use Rattle.container.proofs.OpeningLaws.{sized}
-use Rattle.verifier.specs.Verdict.{Judgement, all-read}
-use Rattle.verifier.proofs.ProgramLaws.{bytes-below}
+use Rattle.safety.specs.Verdict.{Judgement, all-read}
+use Rattle.safety.proofs.ProgramLaws.{bytes-below}
 use Rattle.verifier.proofs.verify.Reads as verify-reads
-use Rattle.listing.specs.Listing.{lines, verdict-line, lists}
+use Rattle.verdictline.specs.VerdictLine.{verdict-line, lists}
+use Rattle.listing.specs.Listing.{lines}
 use Rattle.text.proofs.TextLaws.{put-next, same-text}
 use Rattle.listing.proofs.ListingLaws.{read-by, unread-by, listing-read, listing-unread, opening}
-use Rattle.listing.proofs.verdict.all_read.Reads as all-read-reads
-use Rattle.listing.proofs.verdict.put_verdict.Reads as put-verdict-reads
+use Rattle.verdictline.proofs.all_read.Reads as all-read-reads
+use Rattle.verdictline.proofs.put_verdict.Reads as put-verdict-reads
 use Rattle.listing.proofs.line.put_lines.Reads as put-lines-reads
 use borrow.Author.Needs.{needs}
 use Rattle.listing.proofs.put_listing.Lts as lts

@@ -4,7 +4,7 @@ use native.Mathlib.Omega.{arith}
 use lib.ListN.{length, length-take, length-drop}
 use denote.Ref.{now}
 use Rattle.container.proofs.OpeningLaws.{sized, words-to, annotations-contents, length-annotations}
-use Rattle.verifier.specs.Verdict.{verdict-outcome}
+use Rattle.safety.specs.Verdict.{verdict-outcome}
 use Rattle.text.proofs.TextLaws.{put-next, same-text}
 use Rattle.show.proofs.ShowLaws.{opened-parts}
 use borrow.Author.Needs.{needs}

@@ -8,14 +8,14 @@ use Rattle.container.specs.Container.{annotations-of}
 use Rattle.container.specs.Opening.{open-outcome}
 use Rattle.container.proofs.header.open.Reads as open-reads
 use Rattle.container.proofs.OpeningLaws.{sized, opened-by, refused-by}
-use Rattle.verifier.specs.Verdict.{Judgement, first}
-use Rattle.verifier.proofs.PassLaws.{unopened-read, worded, opened-read}
+use Rattle.safety.specs.Verdict.{Judgement, first}
+use Rattle.safety.proofs.PassLaws.{unopened-read, worded, opened-read}
 use Rattle.verifier.proofs.read_all.Statement.{statement}
 use Rattle.verifier.proofs.read_all.Tie as tie
 use Rattle.verifier.proofs.read_all.Reads as reads
 use Rattle.verifier.proofs.read_all.Lts as lts
 use Rattle.verifier.proofs.program.read_from.Reads as read-from-reads
-use Rattle.verifier.proofs.verdict.refused.Reads as refused-reads
+use Rattle.safety.proofs.verdict.refused.Reads as refused-reads
 
 -- where it opens
 abbrev Opened : Type 0

@@ -7,12 +7,12 @@ use Rattle.container.specs.Opening.{open-outcome}
 use Rattle.container.proofs.header.open.Reads as open-reads
 use Rattle.container.proofs.parts.annotations.Reads as annotations-reads
 use Rattle.container.proofs.OpeningLaws.{sized, opened-by, refused-by, annotations-contents}
-use Rattle.verifier.proofs.ProgramLaws.{bytes-below}
-use Rattle.verifier.proofs.PassLaws.{unopened, worded, annotated, opened-to}
-use Rattle.verifier.proofs.Demand3.{agreed}
-use Rattle.verifier.proofs.ReasonLaws.{grounded}
+use Rattle.safety.proofs.ProgramLaws.{bytes-below}
+use Rattle.safety.proofs.PassLaws.{unopened, worded, annotated, opened-to}
+use Rattle.safety.proofs.Demand3.{agreed}
+use Rattle.safety.proofs.ReasonLaws.{grounded}
 use Rattle.verifier.proofs.program.judge_words.Reads as judge-words-reads
-use Rattle.verifier.proofs.verdict.refused.Reads as refused-reads
+use Rattle.safety.proofs.verdict.refused.Reads as refused-reads
 use Rattle.verifier.proofs.verify.Lts as lts
 use Rattle.verifier.proofs.verify.Reads as reads
 use borrow.Author.Needs.{needs}

@@ -2,7 +2,8 @@ use mathlib.Core.Path.{sym, ap, _∙_}
 use Prim.Native.Nat.{max}
 use denote.Ref.{now}
 use Rattle.diff.specs.declared.cursor.Step.{Step}
-use Rattle.diff.specs.served.Cursor.{singles-from, stage-stepped}
+use Rattle.diffparts.specs.served.Parts.{singles-from}
+use Rattle.diff.specs.served.Cursor.{stage-stepped}
 use borrow.Author.Needs.{needs}
 use Rattle.diff.proofs.cursor.advance.Statement.{statement}
 use Rattle.diff.proofs.cursor.advance.Tie as tie

@@ -4,9 +4,9 @@ use native.Mathlib.Omega.{arith}
 use denote.Ref.{now}
 use Rattle.bits.proofs.Every.{clash}
 use Rattle.reader.specs.Reader.{read-number}
-use Rattle.verifier.specs.Program.{instruction-in}
-use Rattle.diff.specs.Records.{contents}
-use Rattle.diff.specs.Differences.{word-of}
+use Rattle.safety.specs.Program.{instruction-in}
+use Rattle.differences.specs.Records.{contents}
+use Rattle.differences.specs.Differences.{word-of}
 use Rattle.diff.proofs.WalkLaws.{said, same-words, whole}
 use borrow.Author.Needs.{needs}
 use Rattle.diff.proofs.cursor.load.Statement.{statement}

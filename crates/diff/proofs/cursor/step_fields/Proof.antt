@@ -5,8 +5,9 @@ use native.Mathlib.Omega.{arith}
 use denote.Ref.{now}
 use borrow.Author.Needs.{needs}
 use Rattle.diff.specs.declared.cursor.Step.{Step}
-use Rattle.diff.specs.Differences.{shared as shared-of}
-use Rattle.diff.specs.served.Cursor.{told-at, from-instruction, remaining, stage-stepped, singles-from}
+use Rattle.differences.specs.Differences.{shared as shared-of}
+use Rattle.diffparts.specs.served.Parts.{singles-from}
+use Rattle.diff.specs.served.Cursor.{told-at, from-instruction, remaining, stage-stepped}
 use Rattle.diff.proofs.WalkLaws.{tells-field, no-field, tells-instruction, skips-instruction, instruction-end}
 use Rattle.diff.proofs.cursor.step_fields.Statement.{statement}
 use Rattle.diff.proofs.cursor.step_fields.Tie as tie

@@ -5,9 +5,9 @@ use native.Mathlib.Omega.{arith}
 use denote.Ref.{now}
 use borrow.Author.Needs.{needs}
 use Rattle.container.proofs.OpeningLaws.{sized}
-use Rattle.diff.specs.declared.line.Line.{Line}
-use Rattle.diff.specs.Differences.{shared}
-use Rattle.diff.specs.served.Cursor.{Counted, part-count, single-told, singles-from}
+use Rattle.differences.specs.declared.line.Line.{Line}
+use Rattle.differences.specs.Differences.{shared}
+use Rattle.diffparts.specs.served.Parts.{Counted, part-count, single-told, singles-from}
 use Rattle.diff.proofs.WalkLaws.{singles-step, singles-end, after-single}
 use Rattle.diff.proofs.cursor.step_singles.Statement.{statement}
 use Rattle.diff.proofs.cursor.step_singles.Tie as tie

@@ -2,14 +2,14 @@ use mathlib.Core.Path.{ap}
 use Prim.Native.Nat.{_+_}
 use denote.Ref.{now}
 use lib.ListN.{getD}
-use Rattle.diff.specs.declared.line.What.{What}
+use Rattle.differences.specs.declared.line.What.{What}
 use Rattle.diff.specs.declared.cursor.Step.the-variants.{Told}
 use borrow.Author.Needs.{needs}
 use Rattle.diff.proofs.cursor.tell.Statement.{statement}
 use Rattle.diff.proofs.cursor.tell.Tie as tie
 use Rattle.diff.proofs.cursor.tell.Reads as reads
 use Rattle.diff.proofs.cursor.tell.Lts as lts
-use Rattle.diff.proofs.line.field.Reads as field-reads
+use Rattle.differences.proofs.line.field.Reads as field-reads
 
 field-requires : tie.Need-field-requires
 field-requires c κs = search needs

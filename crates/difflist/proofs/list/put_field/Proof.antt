@@ -3,14 +3,14 @@ use mathlib.Core.List.{List, [], _∷_}
 use denote.Ref.{now}
 use lib.ListN.{getD}
 use borrow.Author.Needs.{needs}
-use Rattle.diff.specs.declared.line.What.{What}
-use Rattle.diff.specs.declared.line.What.the-variants.{Row}
-use Rattle.diff.specs.declared.line.Line.{Line}
-use Rattle.diff.specs.Differences.{line}
-use Rattle.diff.specs.served.Placed.{Placed}
-use Rattle.diff.specs.Records.{fields}
-use Rattle.diff.proofs.LineLaws.{no-line, one-line}
-use Rattle.diff.proofs.FillLaws.{none-placed}
+use Rattle.differences.specs.declared.line.What.{What}
+use Rattle.differences.specs.declared.line.What.the-variants.{Row}
+use Rattle.differences.specs.declared.line.Line.{Line}
+use Rattle.differences.specs.Differences.{line}
+use Rattle.difflist.specs.served.Placed.{Placed}
+use Rattle.differences.specs.Records.{fields}
+use Rattle.differences.proofs.LineLaws.{no-line, one-line}
+use Rattle.difflist.proofs.FillLaws.{none-placed}
 use Rattle.difflist.proofs.list.put_field.Statement.{statement}
 use Rattle.difflist.proofs.list.put_field.Tie as tie
 

@@ -6,12 +6,13 @@ use native.Mathlib.Omega.{arith}
 use denote.Ref.{now}
 use lib.ListN.{length, getD}
 use borrow.Author.Needs.{needs}
-use Rattle.diff.specs.declared.line.What.the-variants.{Row}
-use Rattle.diff.specs.Records.{fields, field-count}
-use Rattle.diff.specs.Differences.{lines-from}
+use Rattle.differences.specs.declared.line.What.the-variants.{Row}
+use Rattle.differences.specs.Records.{fields, field-count}
+use Rattle.differences.specs.Differences.{lines-from}
 use Rattle.diff.specs.served.Cursor.{field-line, fields-from}
-use Rattle.diff.specs.served.Placed.{Placed}
-use Rattle.diff.proofs.FillLaws.{no-index, index-placed, differs-few, index-room}
+use Rattle.difflist.specs.served.Placed.{Placed}
+use Rattle.diff.proofs.FewLaws.{differs-few}
+use Rattle.difflist.proofs.FillLaws.{no-index, index-placed, index-room}
 use Rattle.difflist.proofs.list.put_fields.Statement.{statement}
 use Rattle.difflist.proofs.list.put_fields.Tie as tie
 

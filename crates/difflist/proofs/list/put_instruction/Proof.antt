@@ -3,9 +3,10 @@ use mathlib.Core.List.{List}
 use native.Mathlib.Omega.{arith}
 use denote.Ref.{now}
 use borrow.Author.Needs.{needs}
-use Rattle.diff.specs.declared.line.Line.{Line}
-use Rattle.diff.specs.served.Placed.{Placed}
-use Rattle.diff.proofs.FillLaws.{none-placed, few-a}
+use Rattle.differences.specs.declared.line.Line.{Line}
+use Rattle.difflist.specs.served.Placed.{Placed}
+use Rattle.diff.proofs.FewLaws.{few-a}
+use Rattle.difflist.proofs.FillLaws.{none-placed}
 use Rattle.difflist.proofs.list.put_instruction.Statement.{statement}
 use Rattle.difflist.proofs.list.put_instruction.Tie as tie
 

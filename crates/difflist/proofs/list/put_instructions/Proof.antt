@@ -6,13 +6,14 @@ use native.Mathlib.Omega.{arith}
 use denote.Ref.{now}
 use lib.ListN.{length}
 use borrow.Author.Needs.{needs}
-use Rattle.diff.specs.declared.line.Line.{Line}
-use Rattle.diff.specs.Records.{field-count}
-use Rattle.diff.specs.Differences.{lines-from, shared, instruction-lines}
-use Rattle.diff.specs.Numbers.{most-lines}
-use Rattle.diff.specs.served.Cursor.{Both}
-use Rattle.diff.specs.served.Placed.{Placed}
-use Rattle.diff.proofs.FillLaws.{no-index, index-placed, index-room, few-a, instruction-few}
+use Rattle.differences.specs.declared.line.Line.{Line}
+use Rattle.differences.specs.Records.{field-count}
+use Rattle.differences.specs.Differences.{lines-from, shared, instruction-lines}
+use Rattle.differences.specs.Numbers.{most-lines}
+use Rattle.diffparts.specs.served.Parts.{Both}
+use Rattle.difflist.specs.served.Placed.{Placed}
+use Rattle.diff.proofs.FewLaws.{few-a, instruction-few}
+use Rattle.difflist.proofs.FillLaws.{no-index, index-placed, index-room}
 use Rattle.difflist.proofs.list.put_instructions.Statement.{statement}
 use Rattle.difflist.proofs.list.put_instructions.Tie as tie
 

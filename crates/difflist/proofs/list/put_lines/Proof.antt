@@ -4,14 +4,15 @@ use Prim.Native.Nat.{ℕ, _+_, _*_, _≤_, min}
 use native.Mathlib.Omega.{arith}
 use denote.Ref.{now}
 use lib.ListN.{length}
-use Rattle.diff.specs.declared.line.Line.{Line}
-use Rattle.diff.specs.Records.{field-count}
-use Rattle.diff.specs.Differences.{lines-from, shared, instruction-lines, differences}
-use Rattle.diff.specs.Numbers.{most-lines}
-use Rattle.diff.specs.served.Cursor.{Counted, singles-from}
-use Rattle.diff.specs.served.Placed.{Placed}
+use Rattle.differences.specs.declared.line.Line.{Line}
+use Rattle.differences.specs.Records.{field-count}
+use Rattle.differences.specs.Differences.{lines-from, shared, instruction-lines, differences}
+use Rattle.differences.specs.Numbers.{most-lines}
+use Rattle.diffparts.specs.served.Parts.{Counted, singles-from}
+use Rattle.difflist.specs.served.Placed.{Placed}
 use Rattle.diff.proofs.WalkLaws.{two-parts}
-use Rattle.diff.proofs.FillLaws.{placed-next, index-room, few-a, instruction-few}
+use Rattle.diff.proofs.FewLaws.{few-a, instruction-few}
+use Rattle.difflist.proofs.FillLaws.{placed-next, index-room}
 use borrow.Author.Needs.{needs}
 use Rattle.difflist.proofs.list.put_lines.Statement.{statement}
 use Rattle.difflist.proofs.list.put_lines.Tie as tie

@@ -1,10 +1,11 @@
 use mathlib.Core.Path.{sym, ap, _∙_, subst}
 use mathlib.Core.List.{List}
 use denote.Ref.{now}
-use Rattle.diff.specs.declared.line.Line.{Line}
-use Rattle.diff.specs.served.Cursor.{single-told}
-use Rattle.diff.specs.served.Placed.{Placed}
-use Rattle.diff.proofs.FillLaws.{none-placed, part-index}
+use Rattle.differences.specs.declared.line.Line.{Line}
+use Rattle.diffparts.specs.served.Parts.{single-told}
+use Rattle.difflist.specs.served.Placed.{Placed}
+use Rattle.diff.proofs.FewLaws.{part-index}
+use Rattle.difflist.proofs.FillLaws.{none-placed}
 use borrow.Author.Needs.{needs}
 use Rattle.difflist.proofs.list.put_part.Statement.{statement}
 use Rattle.difflist.proofs.list.put_part.Tie as tie

@@ -6,12 +6,13 @@ use native.Mathlib.Omega.{arith}
 use denote.Ref.{now}
 use lib.ListN.{length}
 use borrow.Author.Needs.{needs}
-use Rattle.diff.specs.Records.{field-count}
-use Rattle.diff.specs.Differences.{lines-from, shared}
-use Rattle.diff.specs.Numbers.{most-lines}
-use Rattle.diff.specs.served.Cursor.{Counted, part-count, single-lines, singles-from}
-use Rattle.diff.specs.served.Placed.{Placed}
-use Rattle.diff.proofs.FillLaws.{no-index, index-placed, index-room, few-a, few-b, single-few}
+use Rattle.differences.specs.Records.{field-count}
+use Rattle.differences.specs.Differences.{lines-from, shared}
+use Rattle.differences.specs.Numbers.{most-lines}
+use Rattle.diffparts.specs.served.Parts.{Counted, part-count, single-lines, singles-from}
+use Rattle.difflist.specs.served.Placed.{Placed}
+use Rattle.diff.proofs.FewLaws.{few-a, few-b, single-few}
+use Rattle.difflist.proofs.FillLaws.{no-index, index-placed, index-room}
 use Rattle.difflist.proofs.list.put_parts.Statement.{statement}
 use Rattle.difflist.proofs.list.put_parts.Tie as tie
 

@@ -2,7 +2,7 @@ use mathlib.Core.Path.{_≡_, sym, ap}
 use mathlib.Core.List.{List, _∷_, _++_}
 use Prim.Native.Nat.{ℕ, _≤_}
 use Rattle.rows.specs.Names.{ascii}
-use Rattle.diff.specs.declared.line.What.{What}
+use Rattle.differences.specs.declared.line.What.{What}
 use Rattle.text.specs.Text.{space, decimal, Put}
 use Rattle.text.proofs.TextLaws.{same-text}
 use Rattle.difftext.specs.Lines.{head, both, told, longest-told}

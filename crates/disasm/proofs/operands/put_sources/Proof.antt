@@ -6,7 +6,7 @@ use lib.ListN.{length, length-take, length-drop}
 use denote.Ref.{now}
 use Rattle.text.specs.Text.{Put}
 use Rattle.text.proofs.TextLaws.{put-next, same-text}
-use Rattle.disasm.specs.Assembly.{longest-source}
+use Rattle.sourcetext.specs.SourceText.{longest-source}
 use Rattle.disasm.specs.served.Places.{coded-sources}
 use Rattle.disasm.proofs.PlaceLaws.{no-sources, one-source}
 use Rattle.disasm.proofs.operands.put_sources.Statement.{statement}

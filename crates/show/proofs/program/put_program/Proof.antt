@@ -3,7 +3,7 @@ use native.Mathlib.Omega.{arith}
 use lib.ListN.{length, length-take, length-drop}
 use lib.Seq.{length-take-le}
 use denote.Ref.{now}
-use Rattle.verifier.specs.Verdict.{verdict-outcome}
+use Rattle.safety.specs.Verdict.{verdict-outcome}
 use Rattle.text.proofs.TextLaws.{put-next, same-text, put-front, put-room}
 use Rattle.show.proofs.ShowLaws.{programmed}
 use borrow.Author.Needs.{needs}

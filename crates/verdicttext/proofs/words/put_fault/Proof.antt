@@ -2,7 +2,7 @@ use denote.Ref.{now}
 use Rattle.verdicttext.proofs.WordLaws.{no-fault}
 use mathlib.Core.Path.{_≡_, refl, sym, ap}
 use native.Mathlib.Omega.{arith}
-use Rattle.verifier.specs.Verdict.{verdict-outcome}
+use Rattle.safety.specs.Verdict.{verdict-outcome}
 use Rattle.text.proofs.TextLaws.{same-text}
 use Rattle.verdicttext.specs.Words.{fault-line}
 use borrow.Author.Needs.{needs}

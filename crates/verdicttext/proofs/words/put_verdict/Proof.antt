@@ -1,7 +1,7 @@
 use mathlib.Core.Path.{_≡_, refl, sym, ap}
 use native.Mathlib.Omega.{arith}
 use Rattle.rows.specs.Names.{ascii}
-use Rattle.verifier.specs.Verdict.{verdict-outcome}
+use Rattle.safety.specs.Verdict.{verdict-outcome}
 use Rattle.text.proofs.TextLaws.{same-text}
 use Rattle.verdicttext.specs.Words.{verdict-text}
 use borrow.Author.Needs.{needs}

@@ -4,16 +4,16 @@ use native.Mathlib.Omega.{arith}
 use denote.Ref.{now}
 use borrow.Author.Needs.{needs}
 use Rattle.reader.specs.Answers.{reading}
-use Rattle.verifier.specs.Verdict.{verdict-outcome}
-use Rattle.verifier.proofs.PassLaws.{Passed, starts, turns, fails, passed-all, read-on, unread}
+use Rattle.safety.specs.Verdict.{verdict-outcome}
+use Rattle.safety.proofs.PassLaws.{Passed, starts, turns, fails, passed-all, read-on, unread}
 use Rattle.verifier.proofs.program.judge_instructions.Statement.{statement}
 use Rattle.verifier.proofs.program.judge_instructions.Tie as tie
 use Rattle.verifier.proofs.program.judge_instructions.Reads as reads
 use Rattle.verifier.proofs.program.judge_instructions.Lts as lts
-use Rattle.verifier.proofs.flow.judge_flow.Reads as judge-flow-reads
+use Rattle.flow.proofs.judge_flow.Reads as judge-flow-reads
 use Rattle.verifier.proofs.program.reading_at.Reads as reading-at-reads
 use Rattle.verifier.proofs.program.unreadable_from.Reads as unreadable-from-reads
-use Rattle.verifier.proofs.verdict.refused.Reads as refused-reads
+use Rattle.safety.proofs.verdict.refused.Reads as refused-reads
 
 abbrev Inv-loop : tie.InvT-loop
 Inv-loop words annotations n i₀ i = (i ≤ n) × Passed words annotations n i

@@ -1,17 +1,17 @@
 use mathlib.Core.Path.{_≡_, refl, ap, _∙_}
 use Prim.Native.Nat.{ℕ}
 use denote.Ref.{now}
-use Rattle.verifier.specs.Verdict.{verdict-outcome, first, none-missing}
-use Rattle.verifier.proofs.PassLaws.{entered, barred}
+use Rattle.safety.specs.Verdict.{verdict-outcome, first, none-missing}
+use Rattle.safety.proofs.PassLaws.{entered, barred}
 use borrow.Author.Needs.{needs}
 use Rattle.verifier.proofs.program.judge_words.Statement.{statement}
 use Rattle.verifier.proofs.program.judge_words.Tie as tie
 use Rattle.verifier.proofs.program.judge_words.Reads as reads
 use Rattle.verifier.proofs.program.judge_words.Lts as lts
-use Rattle.verifier.proofs.flow.annotation_at.Reads as annotation-at-reads
+use Rattle.flow.proofs.annotation_at.Reads as annotation-at-reads
 use Rattle.verifier.proofs.program.judge_instructions.Reads as judge-instructions-reads
 use Rattle.verifier.proofs.program.unreadable_from.Reads as unreadable-from-reads
-use Rattle.verifier.proofs.verdict.none_missing.Reads as none-missing-reads
+use Rattle.safety.proofs.verdict.none_missing.Reads as none-missing-reads
 
 annotation-at-requires : tie.Need-annotation-at-requires
 annotation-at-requires c κs = search needs

@@ -5,9 +5,9 @@ use denote.Ref.{now}
 use borrow.Author.Needs.{needs}
 use Rattle.bits.specs.Outcomes.{passes}
 use Rattle.reader.specs.Answers.{reading}
-use Rattle.verifier.specs.Verdict.{first, judge-word}
-use Rattle.verifier.proofs.VerdictLaws.{then-none}
-use Rattle.verifier.proofs.PassLaws.{unread, read-on, ended}
+use Rattle.safety.specs.Verdict.{first, judge-word}
+use Rattle.safety.proofs.VerdictLaws.{then-none}
+use Rattle.safety.proofs.PassLaws.{unread, read-on, ended}
 use Rattle.verifier.proofs.program.read_from.Statement.{statement}
 use Rattle.verifier.proofs.program.read_from.Tie as tie
 

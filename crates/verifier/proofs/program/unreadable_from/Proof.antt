@@ -1,6 +1,6 @@
 use mathlib.Core.Path.{refl}
 use borrow.Author.Needs.{needs}
-use Rattle.verifier.proofs.PassLaws.{followed, halted}
+use Rattle.safety.proofs.PassLaws.{followed, halted}
 use Rattle.verifier.proofs.program.unreadable_from.Statement.{statement}
 use Rattle.verifier.proofs.program.unreadable_from.Tie as tie
 

@@ -3,7 +3,7 @@ use Prim.Native.Nat.{_+_}
 use lib.IntN.{ℤ, pos, _+ℤ_}
 use mir.Syntax.{w32}
 use mir.ValLaws.{toZ-ofZ}
-use Rattle.verifier.specs.Program.{landing}
+use Rattle.safety.specs.Program.{landing}
 use borrow.Author.Needs.{needs}
 use Rattle.wordtext.proofs.column.lands.Statement.{statement}
 use Rattle.wordtext.proofs.column.lands.Tie as tie

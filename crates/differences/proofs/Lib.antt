@@ -1,0 +1,11 @@
+pub mod ListLaws
+pub mod DiffersLaws
+pub mod OrderLaws
+pub mod RecordLaws
+pub mod BitLaws
+pub mod EqualLaws
+pub mod AskedLaws
+pub mod LazyComparisons
+pub mod LineLaws
+pub mod RefusalLaws
+pub mod NumberLaws

@@ -1,0 +1,2 @@
+pub mod SourceText
+pub mod served

@@ -1,0 +1,4 @@
+pub mod ByteLaws
+pub mod PlanLaws
+pub mod SweepLaws
+pub mod LoopLaws
