@@ -1,27 +1,27 @@
 // The exported functions for C and Rust: numbers, byte slices and fixed arrays only.
 ghost use mathlib.Core.Path.{_≡_};
-ghost use Prim.Native.Nat.{_<_};
 ghost use lib.ListN.{length};
 ghost use Rattle.rows.specs.Names.{name-of};
-ghost use Rattle.lookup.specs.Opcodes.{row-with};
-ghost use Rattle.reader.specs.Reader.{read};
+ghost use Rattle.opcoderows.specs.Opcodes.{row-with};
+ghost use Rattle.reading.specs.Reader.{read};
 ghost use Rattle.record.specs.Defaults.{fresh};
 ghost use Rattle.safety.specs.Verdict.{verdict-of};
 ghost use Rattle.safety.specs.Demand3.{Demand3At};
 ghost use Rattle.infer.specs.Inference.{infer-outcome, infer-buffer};
 ghost use Rattle.infer.specs.Asked.{AsAsked};
 ghost use Rattle.differences.specs.Answers.{line-outcome, list-outcome, list-buffer};
-ghost use Rattle.codes.specs.Codes.{code, packed, outcome-code, verdict-code, infer-code, row-code, unread-code, line-code, line-after, list-code};
+ghost use Rattle.codes.specs.Codes.{outcome-code, verdict-code, infer-code, row-code, line-code, line-after, list-code};
 ghost use Rattle.form.specs.Form.{form-after, write-form, word-after};
 ghost use Rattle.codes.specs.Texts.{text-after, form-text, name-after};
 use bits::bytes::wide;
 use codec::read_word;
 use codec::write_word;
+use codes::finding_code;
+use codes::refusal_code;
+use codes::unread_code;
 use diff::diff_line;
 use differences::answer::Compared;
 use differences::answer::Listed;
-use differences::answer::Side;
-use differences::answer::Unread;
 use differences::numbers::MOST_NUMBERS;
 use differences::numbers::line_numbers;
 use difflist::diff_lines;
@@ -30,53 +30,21 @@ use form::form_of;
 use form::instruction_of_form;
 use form::padded;
 use infer::infer;
-use lookup::opcodes::RowFound;
-use lookup::opcodes::row_with;
+use opcoderows::RowFound;
+use opcoderows::row_with;
 use reader::answer::Reading;
 use record::answer::Fresh;
-use record::answer::Refusal;
 use record::instruction::Instruction;
-use safety::verdict::Finding;
 use safety::verdict::Verdict;
 use sweeps::answer::Inference;
 use text::name::put_name;
 use verifier::verify;
 use writer::answer::Written;
 
-pub
 // Room for any text and any name, with the 0 after it: VSP_TEXT and VSP_NAME of the header.
 const TEXT: usize = 534;
 
 const NAME: usize = 19;
-
-// A refusal as one number: number + 2^8 place.
-fn refusal_code(f: Refusal) -> u32
-    ensures { λ r. ⌜ r ≡ code f ⌝ }
-{
-    f.number as u32 + 256 * f.place as u32
-}
-
-// A finding as one number: number + 2^8 place + 2^16 index + 2^32 register.
-fn finding_code(f: Finding) -> u64
-    requires { ⌜ f .index < 65536 ⌝ }
-    ensures { λ r. ⌜ r ≡ packed f ⌝ }
-{
-    let low = f.number as u64 + 256 * f.place as u64;
-    low + 65536 * f.index as u64 + 4294967296 * f.register as u64
-}
-
-// A container that cannot be compared as one number: the finding, and 2^48 for the first or 2^49 for the second.
-fn unread_code(u: Unread) -> u64
-    requires { ⌜ (u .finding .index < 65536) × (u .finding .register < 65536) ⌝ }
-    ensures { λ r. ⌜ r ≡ unread-code u ⌝ }
-{
-    let f = u.finding;
-    let side = u.side;
-    match side {
-        Side::First => finding_code(f) + 281474976710656,
-        Side::Second => finding_code(f) + 562949953421312,
-    }
-}
 
 // Verifies a container: 0 where it is accepted, else the finding as one number.
 #[no_mangle]

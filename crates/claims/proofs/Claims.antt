@@ -11,24 +11,24 @@ use Rattle.bits.specs.Outcomes.{Outcome, gives, refuses, passes}
 use Rattle.bits.specs.Sets.{Has}
 use Rattle.rows.specs.Rows.{row-count}
 use Rattle.rows.specs.Sources.{meaning, Paired}
-use Rattle.rows.proofs.sources.meaning as meaning-call
+use Rattle.sources.proofs.meaning as meaning-call
 use Rattle.rows.proofs.SourceLaws as source-laws
-use Rattle.lookup.specs.Opcodes.{row-with, Indexes, row-for, OwnRows}
-use Rattle.lookup.proofs.opcodes.row_with as row-call
+use Rattle.opcoderows.specs.Opcodes.{row-with, Indexes, row-for, OwnRows}
+use Rattle.opcoderows.proofs.row_with as row-call
 use Rattle.lookup.proofs.line_of as line-call
-use Rattle.lookup.proofs.RunLaws as run-laws
-use Rattle.lookup.proofs.OpcodeLaws as opcode-laws
+use Rattle.opcoderows.proofs.RunLaws as run-laws
+use Rattle.opcoderows.proofs.OpcodeLaws as opcode-laws
 use Rattle.record.specs.declared.answer.Refusal.{Refusal}
 use Rattle.record.specs.declared.instruction.Instruction.{Instruction}
 use Rattle.record.specs.Defaults.{fresh, default-instruction}
 use Rattle.record.proofs.NumberedLaws as record-numbers
-use Rattle.reader.proofs.NumberedLaws as reader-numbers
+use Rattle.reading.proofs.NumberedLaws as reader-numbers
 use Rattle.record.proofs.instruction.Instruction.fresh as fresh-call
-use Rattle.reader.specs.Reader.{read}
-use Rattle.reader.specs.Stray.{NamesStray}
-use Rattle.reader.proofs.StrayNamed as stray-named
-use Rattle.writer.specs.Writer.{write, stored}
-use Rattle.writer.proofs.RoundTrip as round-trip
+use Rattle.reading.specs.Reader.{read}
+use Rattle.reading.specs.Stray.{NamesStray}
+use Rattle.reading.proofs.StrayNamed as stray-named
+use Rattle.writing.specs.Writer.{write, stored}
+use Rattle.writing.proofs.RoundTrip as round-trip
 use Rattle.codec.specs.Demand2.{Demand2, LegalRecord}
 use Rattle.codec.specs.Examples.{Hold, examples}
 use Rattle.codec.proofs.read_word as read-call
@@ -38,12 +38,12 @@ use Rattle.codec.proofs.ExamplesHold as examples-met
 use Rattle.codec.proofs.Defaulted as defaulted
 use Rattle.container.proofs.header.«open» as open-call
 use Rattle.container.proofs.parts.annotations as annotations-call
-use Rattle.container.proofs.view.word_of as word-call
-use Rattle.container.proofs.view.word_in as word-in-call
-use Rattle.container.proofs.view.word_at as word-at-call
-use Rattle.container.proofs.view.view_of as view-call
-use Rattle.container.proofs.view.open_count as count-call
-use Rattle.container.proofs.WordLaws as word-laws
+use Rattle.view.proofs.word_of as word-call
+use Rattle.view.proofs.word_in as word-in-call
+use Rattle.view.proofs.word_at as word-at-call
+use Rattle.view.proofs.view_of as view-call
+use Rattle.view.proofs.open_count as count-call
+use Rattle.view.proofs.WordLaws as word-laws
 use Rattle.packing.proofs.fit as fit-call
 use Rattle.packing.proofs.pack as pack-call
 use Rattle.packing.proofs.PackLaws as pack-laws
@@ -51,8 +51,9 @@ use Rattle.container.specs.Container.{count-of, entry-of, words-of, annotations
 use Rattle.packing.specs.Packing.{word-count, Fitting, container-bytes, pack-outcome}
 use Rattle.bits.specs.Bytes.{little}
 use Rattle.container.specs.Opening.{Rejection, unplaced, open-outcome, Opens}
-use Rattle.container.specs.Words.{word-outcome, open-count}
+use Rattle.view.specs.Words.{word-outcome, open-count}
 use Rattle.container.proofs.NumberedLaws as container-numbers
+use Rattle.view.proofs.WordNumbers as word-refusals
 use Rattle.packing.proofs.NumberedLaws as packing-numbers
 use Rattle.safety.specs.declared.verdict.Finding.{Finding}
 use Rattle.safety.specs.Verdict.{Judgement, verdict-of, all-read}
@@ -108,9 +109,9 @@ use Rattle.listing.specs.Listing.{listing}
 use Rattle.listing.specs.Asked.{ListedAsAsked}
 use Rattle.listing.specs.Cut.{read-length, FromTheFront}
 use Rattle.listing.proofs.«write» as list-call
-use Rattle.difftext.specs.Asked.{ShownWhole}
+use Rattle.linetext.specs.Asked.{ShownWhole}
 use Rattle.difftext.proofs.write_line as write-line-call
-use Rattle.difftext.proofs.ShownLaws as shown-laws
+use Rattle.linetext.proofs.ShownLaws as shown-laws
 use Rattle.listing.proofs.AskedLaws as asked
 use Rattle.listing.proofs.CutLaws as cut
 use Rattle.codes.specs.Promises.{ZeroMeansDone, FewerMeansNone, NoRowMeansNone, ReadThenWritten, WrittenThenRead, FreshThenWritten, TextNeverEmpty, NoNameMeansNone}
@@ -140,11 +141,11 @@ module _ {M : Type 1} where
   pub writes : write-call.Statement.statement M
   writes = write-call.Met.met
 
-  -- `rows::sources::meaning`: the answer stands for `meaning` of the page and the source byte
+  -- `sources::meaning`: the answer stands for `meaning` of the page and the source byte
   pub means : meaning-call.Statement.statement M
   means = meaning-call.Met.met
 
-  -- `lookup::opcodes::row_with`: the answer stands for `row-with` of the opcode and k
+  -- `opcoderows::row_with`: the answer stands for `row-with` of the opcode and k
   pub gives-rows : row-call.Statement.statement M
   gives-rows = row-call.Met.met
 
@@ -160,7 +161,7 @@ module _ {M : Type 1} where
   pub lends-annotations : annotations-call.Statement.statement M
   lends-annotations = annotations-call.Met.met
 
-  -- `container::view`: how many instructions there are, the view of a container, and the word at an index of one, of a view that anyone made,
+  -- `view`: how many instructions there are, the view of a container, and the word at an index of one, of a view that anyone made,
   -- or of bytes with any n, or its refusal
   pub counts : count-call.Statement.statement M
   counts = count-call.Met.met
@@ -273,7 +274,7 @@ pub open-refusals : (s : List ℕ) (r : Rejection) → open-outcome s ≡ refuse
 open-refusals = container-numbers.open-numbers
 
 pub fetch-refusals : (s : List ℕ) (n i : ℕ) (r : Rejection) → word-outcome s n i ≡ refuses r → r ≡ unplaced 14
-fetch-refusals = container-numbers.word-numbers
+fetch-refusals = word-refusals.word-numbers
 
 pub pack-refusals : (entry : ℕ) (words annotations out : List ℕ) (r : Rejection) → pack-outcome entry words annotations out ≡ refuses r
     → r ≡ unplaced 12

@@ -14,13 +14,13 @@ use Rattle.rows.specs.Layout.{modifier-at}
 use Rattle.rows.specs.Sources.{meaning}
 use Rattle.rows.proofs.TableLaws.{in-table}
 use Rattle.record.specs.Legality.{judge-modifiers, judge-sources, judge, roomy, judge-instruction}
-use Rattle.reader.specs.Reader.{read}
-use Rattle.writer.specs.Writer.{write, stored}
+use Rattle.reading.specs.Reader.{read}
+use Rattle.writing.specs.Writer.{write, stored}
 use Rattle.record.specs.Defaults.{default-instruction}
 use Rattle.codec.specs.Demand2.{LegalRecord}
 use Rattle.record.specs.declared.answer.Refusal.{Refusal}
 use Rattle.codec.proofs.LegalRecords.{judged-legal}
-use Rattle.writer.proofs.RoundTrip.{written, stored-word, read-written}
+use Rattle.writing.proofs.RoundTrip.{written, stored-word, read-written}
 
 passing : Outcome Refusal (Unit {0}) → Bool
 passing (gives t) = true

@@ -13,9 +13,9 @@ use Rattle.bits.specs.Outcomes.{Outcome, gives, refuses, passes, require, kept-
 use Rattle.bits.proofs.Every.{and-both, and-l, and-r}
 use Rattle.bits.proofs.OutcomeLaws.{then-gives, required, never}
 use Rattle.record.specs.Instructions.{word-of}
-use Rattle.reader.specs.Reader.{read}
+use Rattle.reading.specs.Reader.{read}
 use Rattle.record.specs.Legality.{judge-instruction}
-use Rattle.writer.specs.Writer.{write, stored}
+use Rattle.writing.specs.Writer.{write, stored}
 use Rattle.record.specs.Answers.{refusal}
 use Rattle.codec.specs.Demand2.{Readable, LegalRecord, Given, Demand2, ReadAsAsked, WrittenAsAsked}
 use Rattle.codec.specs.Examples.{examples}
@@ -23,7 +23,7 @@ use Rattle.record.specs.declared.instruction.Instruction.{Instruction}
 use Rattle.record.specs.declared.answer.Refusal.{Refusal}
 use Rattle.codec.proofs.ReadableWords.{no-two, readable-read, read-readable}
 use Rattle.codec.proofs.LegalRecords.{legal-judged, judged-legal}
-use Rattle.writer.proofs.RoundTrip.{read-legal, written-read, read-written, written, stored-word}
+use Rattle.writing.proofs.RoundTrip.{read-legal, written-read, read-written, written, stored-word}
 use Rattle.codec.proofs.ExamplesHold.{examples-hold}
 
 are-bytes : (bs : List ℕ) → ((b : ℕ) → getD bs b 0 < 256) → T (areBytes bs)

@@ -10,8 +10,8 @@ use Rattle.rows.specs.Layout.{places, modifier-at, slots, find}
 use Rattle.rows.specs.Sources.{meaning}
 use Rattle.record.specs.Instructions.{numbers}
 use Rattle.record.specs.Legality.{judge-modifiers, judge-sources, judge, roomy, judge-instruction}
-use Rattle.reader.specs.Reader.{lowest-stray, read-row, read}
-use Rattle.writer.specs.Writer.{same-list, same, write, stored}
+use Rattle.reading.specs.Reader.{lowest-stray, read-row, read}
+use Rattle.writing.specs.Writer.{same-list, same, write, stored}
 use Rattle.codec.specs.Examples.{examples, Hold}
 
 pub examples-hold : Hold examples

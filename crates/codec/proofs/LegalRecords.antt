@@ -24,7 +24,7 @@ use Rattle.codec.specs.Demand2.{Allowed, Beside, Destined, Sourced, InRa
 use Rattle.record.specs.declared.instruction.Instruction.{Instruction}
 use Rattle.record.proofs.NumberLaws.{source-at, modifier-here, fit-true, at-room, Roomy, parts-roomy, head-room, source-room}
 use Rattle.record.proofs.LegalLaws.{Passed, judge-passes, passes-judge, ok-source, source-is-ok, legal-room}
-use Rattle.writer.proofs.RoundTrip.{legal-row, legal-roomy, legal-judge, judged-so}
+use Rattle.writing.proofs.RoundTrip.{legal-row, legal-roomy, legal-judge, judged-so}
 
 -- ---- two lists side by side
 

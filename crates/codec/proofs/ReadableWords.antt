@@ -17,14 +17,14 @@ use Rattle.rows.proofs.RowLaws.{one-row, four-sources, opcode-there, second-the
 use Rattle.rows.proofs.FindLaws.{find-fits, find-row}
 use Rattle.record.specs.Instructions.{number-in, instruction-of}
 use Rattle.record.specs.Legality.{source-ok}
-use Rattle.reader.specs.Reader.{read-row, read}
+use Rattle.reading.specs.Reader.{read-row, read}
 use Rattle.codec.specs.Demand2.{Allowed, Fits, Readable}
 use Rattle.record.specs.declared.instruction.Instruction.{Instruction}
 use Rattle.record.proofs.NumberLaws.{source-in, modifier-in}
-use Rattle.reader.proofs.StrayLaws.{clean-stray, stray-clean}
+use Rattle.reading.proofs.StrayLaws.{clean-stray, stray-clean}
 use Rattle.record.proofs.LegalLaws.{Passed, judge-passes, passes-judge, ok-source, source-is-ok}
 use Rattle.codec.proofs.EachModifier.{modifiers-each, each-modifier}
-use Rattle.writer.proofs.RoundTrip.{Parsed, parsed}
+use Rattle.writing.proofs.RoundTrip.{Parsed, parsed}
 
 -- the test and the statement that a word fits a row
 pub fits-test : (k w : ℕ) → Fits k w → fits (row-of k) w ≡ true

@@ -16,8 +16,8 @@ use Rattle.rows.specs.Sources.{source-legal}
 use Rattle.rows.specs.Rows.{Modifier, row-of, row-count}
 use Rattle.rows.specs.Layout.{slots, modifier-at, modifier-lows}
 use Rattle.record.specs.Lists.{source-list, modifier-list}
-use Rattle.reader.specs.Reader.{read}
-use Rattle.writer.specs.Writer.{stored}
+use Rattle.reading.specs.Reader.{read}
+use Rattle.writing.specs.Writer.{stored}
 use Rattle.record.specs.declared.instruction.Instruction.{Instruction}
 use Rattle.record.specs.declared.answer.Refusal.{Refusal}
 

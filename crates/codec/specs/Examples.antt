@@ -11,8 +11,8 @@ use Rattle.rows.specs.Rows.{row-of}
 use Rattle.rows.specs.Sources.{Meaning, meaning, register-read, register-released, uniform, immediate, special, warp-id, low-word, high-word}
 use Rattle.record.specs.Lists.{source-list, sources-of, modifiers-of}
 use Rattle.record.specs.Answers.{refusal}
-use Rattle.reader.specs.Reader.{read}
-use Rattle.writer.specs.Writer.{stored}
+use Rattle.reading.specs.Reader.{read}
+use Rattle.writing.specs.Writer.{stored}
 use Rattle.record.specs.declared.instruction.Instruction.{Instruction}
 use Rattle.record.specs.declared.answer.Refusal.{Refusal}
 

@@ -1,8 +1,8 @@
 // Reading and writing words, with what demand 2 says of both.
 ghost use mathlib.Core.Path.{_≡_};
-ghost use Rattle.reader.specs.Reader.{read};
+ghost use Rattle.reading.specs.Reader.{read};
 ghost use Rattle.reader.specs.Answers.{reading};
-ghost use Rattle.writer.specs.Writer.{write, stored};
+ghost use Rattle.writing.specs.Writer.{write, stored};
 ghost use Rattle.writer.specs.Answers.{writing};
 ghost use Rattle.codec.specs.Demand2.{ReadAsAsked, WrittenAsAsked};
 use reader::answer::Reading;

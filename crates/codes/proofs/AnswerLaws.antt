@@ -7,7 +7,7 @@ use lib.ListN.{length, getD}
 use borrow.Author.Tests.{eq-eqb, ne-eqb, lt-ltb, le-ltb}
 use Rattle.bits.specs.Outcomes.{Outcome, gives, refuses, passes, _then_}
 use Rattle.rows.specs.Rows.{row-count}
-use Rattle.writer.specs.Writer.{write, stored}
+use Rattle.writing.specs.Writer.{write, stored}
 use Rattle.record.specs.declared.instruction.Instruction.{Instruction}
 use Rattle.record.specs.declared.answer.Refusal.{Refusal}
 use Rattle.safety.specs.declared.verdict.Finding.{Finding}

@@ -17,18 +17,18 @@ use Rattle.bits.specs.Signed.{unsigned}
 use Rattle.bits.proofs.OutcomeLaws.{never, then-gives, required, Refusals, on, weaker}
 use Rattle.bits.proofs.SignedLaws.{there}
 use Rattle.rows.specs.Rows.{row-of, row-count}
-use Rattle.lookup.specs.Opcodes.{row-with}
-use Rattle.lookup.proofs.RunLaws.{indexes}
+use Rattle.opcoderows.specs.Opcodes.{row-with}
+use Rattle.opcoderows.proofs.RunLaws.{indexes}
 use Rattle.record.specs.declared.instruction.Instruction.{Instruction}
 use Rattle.record.specs.declared.answer.Refusal.{Refusal}
 use Rattle.record.specs.Answers.{refusal}
 use Rattle.record.specs.Lists.{source-list, modifier-list}
-use Rattle.reader.specs.Reader.{read}
-use Rattle.writer.specs.Writer.{heads, write, stored}
+use Rattle.reading.specs.Reader.{read}
+use Rattle.writing.specs.Writer.{heads, write, stored}
 use Rattle.record.specs.Defaults.{fresh, default-instruction}
 use Rattle.record.proofs.NumberedLaws.{Numbered, OfWriting, fresh-numbers}
-use Rattle.reader.proofs.NumberedLaws.{read-numbers}
-use Rattle.writer.proofs.RoundTrip.{write-numbers}
+use Rattle.reading.proofs.NumberedLaws.{read-numbers}
+use Rattle.writing.proofs.RoundTrip.{write-numbers}
 use Rattle.codec.specs.Demand2.{LegalRecord, Offset}
 use Rattle.codec.proofs.Demand2Met.{demand2}
 use Rattle.codec.proofs.Defaulted.{default-legal}

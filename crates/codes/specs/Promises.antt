@@ -11,9 +11,9 @@ use Rattle.rows.specs.Rows.{row-count}
 use Rattle.rows.specs.Names.{name-of}
 use Rattle.record.specs.declared.instruction.Instruction.{Instruction}
 use Rattle.record.specs.declared.answer.Refusal.{Refusal}
-use Rattle.lookup.specs.Opcodes.{row-with}
+use Rattle.opcoderows.specs.Opcodes.{row-with}
 use Rattle.codec.specs.Demand2.{Given}
-use Rattle.reader.specs.Reader.{read}
+use Rattle.reading.specs.Reader.{read}
 use Rattle.record.specs.Defaults.{fresh}
 use Rattle.safety.specs.Verdict.{verdict-of}
 use Rattle.infer.specs.Inference.{infer-outcome}

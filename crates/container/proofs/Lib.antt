@@ -1,3 +1,2 @@
 pub mod OpeningLaws
-pub mod WordLaws
 pub mod NumberedLaws

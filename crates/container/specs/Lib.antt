@@ -1,3 +1,2 @@
 pub mod Container
 pub mod Opening
-pub mod Words

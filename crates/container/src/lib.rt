@@ -1,5 +1,4 @@
-// The container (the paper's parcel): opening, the annotations as a part of the lent bytes, and the word at an index.
+// The container (the paper's parcel): opening, and the annotations as a part of the lent bytes.
 pub mod header;
 pub mod layout;
 pub mod parts;
-pub mod view;

@@ -8,8 +8,8 @@ use Rattle.bits.specs.Lists.{kth}
 use Rattle.bits.specs.Outcomes.{Outcome, gives, refuses, passes, _then_, kept-or}
 use Rattle.bits.proofs.OutcomeLaws.{never, then-passed, then-refused, then-gives}
 use Rattle.container.specs.Container.{most-instructions}
-use Rattle.container.specs.Words.{open-count}
-use Rattle.container.proofs.WordLaws.{opened-count}
+use Rattle.view.specs.Words.{open-count}
+use Rattle.view.proofs.WordLaws.{opened-count}
 use Rattle.safety.specs.declared.verdict.Finding.{Finding}
 use Rattle.safety.specs.Verdict.{Judgement, all-read}
 use Rattle.differences.specs.declared.answer.Side.the-variants.{First, Second}

@@ -12,7 +12,7 @@ use Rattle.bits.specs.Outcomes.{_then_}
 use Rattle.container.specs.Container.{count-of, words-of, eight}
 use Rattle.container.specs.Opening.{Opens}
 use Rattle.container.proofs.OpeningLaws.{length-words, length-part}
-use Rattle.reader.specs.Reader.{read, read-number}
+use Rattle.reading.specs.Reader.{read, read-number}
 use Rattle.safety.specs.Program.{instruction-in, instruction-at}
 use Rattle.differences.specs.declared.line.What.{What}
 use Rattle.differences.specs.declared.line.What.the-variants.{Row}

@@ -7,7 +7,7 @@ ghost use lib.ListN.{length};
 ghost use Rattle.bits.specs.Lists.{kth};
 ghost use Rattle.bits.specs.Outcomes.{refuses};
 ghost use Rattle.diffparts.specs.served.Parts.{Both, Counted};
-ghost use Rattle.difftext.specs.Lines.{line-text};
+ghost use Rattle.linetext.specs.Lines.{line-text};
 ghost use Rattle.input.specs.declared.Input.the-variants.{Bytes};
 ghost use Rattle.input.specs.Input.{Within};
 ghost use Rattle.verdictline.specs.VerdictLine.{verdict-line};
@@ -17,7 +17,6 @@ use container::layout::ANNOTATION_LENGTH;
 use container::layout::HEADER_LENGTH;
 use container::layout::MOST_INSTRUCTIONS;
 use container::layout::WORD_LENGTH;
-use container::view::open_count;
 use diff::both_read;
 use diff::cursor::At;
 use diff::cursor::Contents;
@@ -34,6 +33,7 @@ use input::Input;
 use safety::verdict::Verdict;
 use verdictline::LONGEST_VERDICT;
 use verdictline::write_verdict;
+use view::open_count;
 
 const LENGTH_LENGTH: usize = 8;
 

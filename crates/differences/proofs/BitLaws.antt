@@ -20,9 +20,9 @@ use Rattle.container.specs.Container.{count-of, words-of, eight}
 use Rattle.record.specs.Instructions.{offset-number, offset-of, instruction-of as record-in}
 use Rattle.record.specs.Legality.{judge-instruction}
 use Rattle.record.specs.declared.instruction.Instruction.{Instruction}
-use Rattle.reader.specs.Reader.{read}
+use Rattle.reading.specs.Reader.{read}
 use Rattle.safety.specs.Program.{instruction-at, WellFormed}
-use Rattle.writer.proofs.RoundTrip.{read-legal, parsed}
+use Rattle.writing.proofs.RoundTrip.{read-legal, parsed}
 use Rattle.differences.specs.Records.{modifier-bits, contents, field-bits, HoldsBits}
 use Rattle.differences.specs.Differences.{instruction-of, shared}
 use Rattle.differences.proofs.RecordLaws.{same-record}

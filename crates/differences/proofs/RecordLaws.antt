@@ -21,8 +21,8 @@ use Rattle.record.specs.Instructions.{offset-number, second-number, instruction
 use Rattle.record.specs.Legality.{judge-instruction}
 use Rattle.record.specs.declared.instruction.Instruction.{Instruction}
 use Rattle.record.proofs.NumberLaws.{along, number-room}
-use Rattle.reader.specs.Reader.{read}
-use Rattle.writer.proofs.RoundTrip.{legal-row, legal-roomy, instruction-there, read-legal, written-read}
+use Rattle.reading.specs.Reader.{read}
+use Rattle.writing.proofs.RoundTrip.{legal-row, legal-roomy, instruction-there, read-legal, written-read}
 use Rattle.differences.specs.Records.{at-bit-8, contents}
 
 -- a row that has an offset has no modifier at bit 8

@@ -10,7 +10,7 @@ use Rattle.bits.specs.Outcomes.{Outcome, gives, refuses, _then_}
 use Rattle.bits.proofs.OutcomeLaws.{never, told, then-passed, then-refused, then-refuses, Refusals, Between}
 use Rattle.record.specs.declared.instruction.Instruction.{Instruction}
 use Rattle.record.specs.declared.answer.Refusal.{Refusal}
-use Rattle.reader.specs.Reader.{read}
+use Rattle.reading.specs.Reader.{read}
 use Rattle.container.specs.declared.header.Header.{Header}
 use Rattle.container.specs.Container.{most-instructions, count-of, words-of, eight}
 use Rattle.container.specs.Opening.{Rejection, open-outcome}

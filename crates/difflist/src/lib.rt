@@ -1,11 +1,11 @@
 // The comparison of two containers as a whole: the list of what differs, at once.
 use crate::list::put_lines;
-use container::view::open_count;
 use diff::both_read;
 use differences::answer::Listed;
 use differences::answer::Ready;
 use differences::line::FIELDS;
 use differences::numbers::MOST_NUMBERS;
+use view::open_count;
 ghost use mathlib.Core.Path.{_≡_};
 ghost use Rattle.differences.specs.Answers.{listed-outcome, list-outcome, list-buffer};
 

@@ -8,7 +8,7 @@ use Rattle.bits.specs.Bytes.{little}
 use Rattle.container.specs.Container.{header-length, word-length, annotation-length, count-of, entry-of, words-of, annotations-of, annotations-start}
 use Rattle.container.specs.Opening.{Opens}
 use Rattle.container.proofs.OpeningLaws.{sized}
-use Rattle.container.proofs.WordLaws.{eight-part}
+use Rattle.view.proofs.WordLaws.{eight-part}
 use Rattle.safety.specs.Program.{annotation-at}
 use Rattle.differences.specs.Differences.{word-of, note-of}
 

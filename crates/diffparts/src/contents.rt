@@ -1,6 +1,6 @@
 // What the fields of an instruction hold.
 ghost use mathlib.Core.Path.{_≡_};
-ghost use Rattle.reader.specs.Reader.{read-number};
+ghost use Rattle.reading.specs.Reader.{read-number};
 ghost use Rattle.safety.specs.Program.{instruction-in};
 ghost use Rattle.differences.specs.Records.{at-bit-8, contents};
 use differences::line::FIELDS;

@@ -23,7 +23,7 @@ pub fn word(bytes: &[u8], i: usize) -> u64
 }
 
 // The annotation at index i of n.
-pub fn note(bytes: &[u8], n: usize, i: usize) -> u64
+pub(crate) fn note(bytes: &[u8], n: usize, i: usize) -> u64
     requires { ⌜ Opens (now bytes) × (n ≡ count-of (now bytes)) × (i < n) ⌝ }
     ensures { λ r. ⌜ r ≡ note-of (now (bytes .entry)) i ⌝ }
 {
@@ -33,7 +33,7 @@ pub fn note(bytes: &[u8], n: usize, i: usize) -> u64
 }
 
 // The entry set.
-pub fn entry(bytes: &[u8]) -> u64
+pub(crate) fn entry(bytes: &[u8]) -> u64
     requires { ⌜ Opens (now bytes) ⌝ }
     ensures { λ r. ⌜ r ≡ entry-of (now (bytes .entry)) ⌝ }
 {

@@ -5,9 +5,8 @@ use text::put::put_byte;
 ghost use Prim.Native.Nat.{_≤_};
 ghost use lib.ListN.{length};
 ghost use Rattle.text.specs.Text.{Put};
-ghost use Rattle.difftext.specs.Lines.{line-text, longest-text};
+ghost use Rattle.linetext.specs.Lines.{line-text, longest-text};
 
-mod piece;
 mod told;
 
 // The most bytes that a line has.

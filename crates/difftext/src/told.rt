@@ -1,10 +1,10 @@
 // What a line tells: the index, what differs there, and the contents.
-use crate::piece::put_both;
-use crate::piece::put_head;
-use crate::piece::put_row;
-use crate::piece::put_word;
 use differences::line::Line;
 use differences::line::What;
+use linetext::put_both;
+use linetext::put_head;
+use linetext::put_row;
+use linetext::put_word;
 use rows::names::WIDTH;
 use text::name::Names;
 use text::put::put_spaced;
@@ -16,7 +16,7 @@ ghost use lib.ListN.{length};
 ghost use Rattle.differences.specs.declared.line.What.the-variants.{Row};
 ghost use Rattle.rows.specs.Names.{ascii, names as all-names};
 ghost use Rattle.text.specs.Text.{space, decimal, Put};
-ghost use Rattle.difftext.specs.Lines.{head, both, word-text, modifier-digits, told as told-of, longest-told};
+ghost use Rattle.linetext.specs.Lines.{head, both, word-text, modifier-digits, told as told-of, longest-told};
 
 // The most bytes that these have.
 const ROW: usize = 1 + 2 + 1 + WIDTH;

@@ -13,7 +13,7 @@ use borrow.Author.Tests.{lt-ltb}
 use Rattle.bits.specs.Bytes.{little-bytes}
 use Rattle.bits.specs.Signed.{unsigned, signed}
 use Rattle.bits.proofs.SignedLaws.{back-again}
-use Rattle.writer.specs.Writer.{heads}
+use Rattle.writing.specs.Writer.{heads}
 use Rattle.record.specs.Lists.{source-list, modifier-list}
 use Rattle.record.specs.declared.instruction.Instruction.{Instruction}
 use Rattle.form.specs.Form.{half, form-of, pick, instruction-of-form}

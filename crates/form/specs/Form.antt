@@ -11,7 +11,7 @@ use Rattle.bits.specs.Signed.{unsigned, signed}
 use Rattle.bits.specs.Outcomes.{Outcome, gives, refuses, require, _then_, kept-or}
 use Rattle.rows.specs.Rows.{row-count}
 use Rattle.record.specs.Answers.{refusal}
-use Rattle.writer.specs.Writer.{heads, write}
+use Rattle.writing.specs.Writer.{heads, write}
 use Rattle.record.specs.Lists.{source-list, sources-of, modifier-list, modifiers-of}
 use Rattle.record.specs.Instructions.{word-of}
 use Rattle.record.specs.declared.instruction.Instruction.{Instruction}

@@ -16,7 +16,7 @@ use Rattle.bits.proofs.OutcomeLaws.{never, then-gives, then-passed, then-refuse
 use Rattle.bits.proofs.SetLaws.{member-below}
 use Rattle.record.specs.declared.answer.Refusal.{Refusal}
 use Rattle.record.specs.declared.instruction.Instruction.{Instruction}
-use Rattle.reader.specs.Reader.{read}
+use Rattle.reading.specs.Reader.{read}
 use Rattle.container.specs.Container.{eight}
 use Rattle.container.specs.Opening.{Opens}
 use Rattle.packing.specs.Packing.{word-count, fitting, Fitting, container-bytes}

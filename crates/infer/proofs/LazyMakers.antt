@@ -19,7 +19,7 @@ use Rattle.rows.specs.Layout.{modifier-at, places, slots, find}
 use Rattle.rows.specs.Sources.{meaning}
 use Rattle.record.specs.Legality.{judge-modifiers, judge-sources, judge}
 use Rattle.record.specs.Registers.{reads, kills, defines}
-use Rattle.reader.specs.Reader.{lowest-stray, read-row, read}
+use Rattle.reading.specs.Reader.{lowest-stray, read-row, read}
 use Rattle.container.specs.Container.{version-of, count-of, entry-of, words-of, annotations-of}
 use Rattle.container.specs.Opening.{open-outcome}
 use Rattle.packing.specs.Packing.{word-count, Fitting, front-bytes, container-bytes}

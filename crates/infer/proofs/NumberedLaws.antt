@@ -10,7 +10,7 @@ use Rattle.bits.specs.Outcomes.{Outcome, gives, refuses, require, _then_}
 use Rattle.bits.proofs.OutcomeLaws.{then-gives, required, Refusals, of-gives, of-refuses, of-then, weaker, Between}
 use Rattle.record.specs.declared.instruction.Instruction.{Instruction}
 use Rattle.record.specs.declared.answer.Refusal.{Refusal}
-use Rattle.reader.specs.Reader.{read}
+use Rattle.reading.specs.Reader.{read}
 use Rattle.container.specs.Container.{eight, most-instructions}
 use Rattle.packing.specs.Packing.{word-count, fitting, Fitting, container-bytes}
 use Rattle.packing.proofs.PackLaws.{fitting-of}

@@ -9,7 +9,7 @@ use lib.Pow.{areBytes}
 use Rattle.bits.specs.Outcomes.{Outcome, gives, refuses, passes}
 use Rattle.bits.specs.Sets.{Has}
 use Rattle.record.specs.declared.answer.Refusal.{Refusal}
-use Rattle.reader.specs.Reader.{read}
+use Rattle.reading.specs.Reader.{read}
 use Rattle.container.specs.Container.{eight}
 use Rattle.packing.specs.Packing.{word-count, Fitting, container-bytes}
 use Rattle.walks.specs.Walks.{AllReached, Exact}

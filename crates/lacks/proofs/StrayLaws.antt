@@ -16,12 +16,12 @@ use Rattle.rows.specs.served.Table.{shape, upto}
 use Rattle.rows.proofs.TableLaws.{in-table}
 use Rattle.rows.proofs.SetOfLaws.{upto-at}
 use Rattle.rows.proofs.FindLaws.{find-le}
-use Rattle.lookup.specs.Opcodes.{row-for}
+use Rattle.opcoderows.specs.Opcodes.{row-for}
 use Rattle.lookup.specs.served.Lines.{line-of}
 use Rattle.lookup.specs.declared.Line.{Line}
-use Rattle.lookup.proofs.OpcodeLaws.{found-among}
-use Rattle.reader.proofs.JudgeLaws.{line-fitted}
-use Rattle.reader.proofs.SourceBytes.{shape-row}
+use Rattle.opcoderows.proofs.OpcodeLaws.{found-among}
+use Rattle.judge.proofs.JudgeLaws.{line-fitted}
+use Rattle.reading.proofs.SourceBytes.{shape-row}
 use Rattle.text.specs.Text.{number-text}
 use Rattle.lacks.specs.Lacks.{lack-at, lack-text, lacks, LackTrue}
 

@@ -10,8 +10,8 @@ use Rattle.bits.proofs.OutcomeLaws.{never, then-refused, told, Refusals}
 use Rattle.record.specs.declared.instruction.Instruction.{Instruction}
 use Rattle.record.specs.declared.answer.Refusal.{Refusal}
 use Rattle.record.proofs.NumberedLaws.{Numbered}
-use Rattle.reader.specs.Reader.{read}
-use Rattle.reader.proofs.NumberedLaws.{read-numbers, read-places}
+use Rattle.reading.specs.Reader.{read}
+use Rattle.reading.proofs.NumberedLaws.{read-numbers, read-places}
 use Rattle.container.specs.declared.header.Header.{Header}
 use Rattle.container.specs.Container.{most-instructions, count-of, words-of, eight}
 use Rattle.container.specs.Opening.{Rejection, open-outcome, Opens}

@@ -6,11 +6,11 @@ use Rattle.bits.specs.Outcomes.{Outcome, gives, refuses}
 use Rattle.bits.proofs.OutcomeLaws.{never}
 use Rattle.record.specs.declared.instruction.Instruction.{Instruction}
 use Rattle.record.specs.declared.answer.Refusal.{Refusal}
-use Rattle.reader.specs.Reader.{read-number}
+use Rattle.reading.specs.Reader.{read-number}
 use Rattle.container.specs.Container.{count-of, words-of}
 use Rattle.container.specs.Opening.{Rejection, Opens}
-use Rattle.container.specs.Words.{word-outcome, open-count}
-use Rattle.container.proofs.WordLaws.{opened-word}
+use Rattle.view.specs.Words.{word-outcome, open-count}
+use Rattle.view.proofs.WordLaws.{opened-word}
 use Rattle.text.specs.Text.{space, line-feed, decimal, hex, Put}
 use Rattle.text.specs.Name.{name-in}
 use Rattle.listing.specs.Listing.{line, word-in}

@@ -14,7 +14,7 @@ use Rattle.bits.proofs.OutcomeLaws.{never, then-passed, then-refused}
 use Rattle.container.specs.declared.header.Header.{Header}
 use Rattle.container.specs.Container.{header-length, count-of, words-of, annotations-start}
 use Rattle.container.specs.Opening.{header-of, Opens}
-use Rattle.container.specs.Words.{count-in, open-count}
+use Rattle.view.specs.Words.{count-in, open-count}
 use Rattle.container.proofs.OpeningLaws.{sized, opened, words-to}
 use Rattle.safety.specs.declared.verdict.Finding.{Finding}
 use Rattle.safety.specs.Program.{program-of, Worded}

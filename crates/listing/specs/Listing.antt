@@ -4,7 +4,7 @@ use Prim.Native.Nat.{ℕ, zero, suc, _+_, _*_}
 use Rattle.bits.specs.Bytes.{little}
 use Rattle.bits.specs.Outcomes.{gives, refuses}
 use Rattle.rows.specs.Names.{name-width}
-use Rattle.reader.specs.Reader.{read-number}
+use Rattle.reading.specs.Reader.{read-number}
 use Rattle.container.specs.Container.{most-instructions, count-of, words-of, eight}
 use Rattle.safety.specs.Verdict.{Judgement, verdict-of, all-read}
 use Rattle.text.specs.Text.{space, line-feed, decimal, hex}

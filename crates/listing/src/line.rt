@@ -1,7 +1,4 @@
 // The line of an instruction: index, word, name.
-use container::view::Fetched;
-use container::view::open_count;
-use container::view::word_of;
 use reader::read_number;
 use rows::names::WIDTH;
 use text::name::Names;
@@ -9,6 +6,9 @@ use text::name::put_reading;
 use text::put::put_byte;
 use text::put::put_digits;
 use text::put::put_spaced;
+use view::Fetched;
+use view::open_count;
+use view::word_of;
 ghost use mathlib.Core.Path.{_≡_};
 ghost use Prim.Native.Nat.{_*_, _<_, _≤_};
 ghost use lib.ListN.{length};

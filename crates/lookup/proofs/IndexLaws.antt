@@ -19,15 +19,15 @@ use Rattle.rows.proofs.TableLaws.{in-table}
 use Rattle.rows.proofs.RowLaws.{opcode-there, second-there}
 use Rattle.rows.proofs.FindLaws.{find-fits, find-row}
 use Rattle.rows.proofs.SetOfLaws.{upto-at}
-use Rattle.lookup.specs.Opcodes.{row-for}
-use Rattle.lookup.specs.served.Keyed.{lookup}
-use Rattle.lookup.specs.served.Slots.{block-at, slot-of}
+use Rattle.opcoderows.specs.Opcodes.{row-for}
+use Rattle.opcoderows.specs.served.Keyed.{lookup}
+use Rattle.opcoderows.specs.served.Slots.{block-at, slot-of}
 use Rattle.lookup.specs.served.Index.{group, empty, groups, group-at, row-under, second-of}
 use Rattle.lookup.specs.served.Lines.{line-of}
 use Rattle.lookup.specs.declared.Group.{Group}
 use Rattle.lookup.specs.declared.Line.{Line}
-use Rattle.lookup.proofs.KeyedLaws.{tested, lookup-passes}
-use Rattle.lookup.proofs.OpcodeLaws.{numbered, found-among}
+use Rattle.opcoderows.proofs.KeyedLaws.{tested, lookup-passes}
+use Rattle.opcoderows.proofs.OpcodeLaws.{numbered, found-among}
 
 -- the group of an opcode, and what stands in the cell that a word's group and secondary opcode lead to
 abbrev pub group-of : ℕ → Group

@@ -1,5 +1,2 @@
-pub mod KeyedLaws
-pub mod SlotLaws
-pub mod OpcodeLaws
-pub mod RunLaws
 pub mod IndexLaws
+pub mod LineLaws

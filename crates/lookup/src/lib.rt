@@ -2,14 +2,12 @@
 // compiles to constant data; a constant array that is indexed at run time is stored anew at every call.
 ghost use mathlib.Core.Path.{_≡_};
 ghost use mathlib.Core.Option.{Option·map};
-ghost use Rattle.lookup.specs.Opcodes.{row-for};
+ghost use Rattle.opcoderows.specs.Opcodes.{row-for};
 ghost use Rattle.lookup.specs.served.Lines.{line-from, line-of, line-found, OwnRow};
 ghost use Rattle.lookup.specs.served.Index.{group, group-at, row-under};
-use crate::opcodes::slot_of;
 use bits::fields::bits_at;
+use opcoderows::slot_of;
 use rows::table;
-
-pub mod opcodes;
 
 pub struct Line {
     // the bits that the row fixes, opcodes and unassigned ones, and what they are

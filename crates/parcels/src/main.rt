@@ -7,12 +7,12 @@ use bits::bytes::wide;
 use container::header::Opening;
 use container::header::open;
 use container::parts::annotations;
-use container::view::Fetched;
-use container::view::open_count;
-use container::view::word_in;
-use container::view::word_of;
 use packing::Packing;
 use packing::pack;
+use view::Fetched;
+use view::open_count;
+use view::word_in;
+use view::word_of;
 
 fn text(s: &[u8]) {
     io::write_all(libc::STDOUT_FILENO, s);

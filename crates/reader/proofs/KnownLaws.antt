@@ -13,7 +13,7 @@ use Rattle.bits.specs.Outcomes.{Outcome, refuses, _then_}
 use Rattle.record.specs.Answers.{refusal}
 use Rattle.record.specs.declared.instruction.Instruction.{Instruction}
 use Rattle.record.specs.declared.answer.Refusal.{Refusal}
-use Rattle.reader.specs.Reader.{read-number, read}
+use Rattle.reading.specs.Reader.{read-number, read}
 use Rattle.bits.specs.Fields.{bits, choose}
 use Rattle.bits.proofs.Every.{every, at, alike, alike-eq}
 use Rattle.rows.specs.Kinds.{width, offset}
@@ -25,9 +25,9 @@ use Rattle.record.specs.Lists.{sources-of}
 use Rattle.record.specs.Instructions.{number-in}
 use Rattle.record.specs.served.Modifiers.{modifiers-in}
 use Rattle.record.proofs.ShapeLaws.{offset-there}
-use Rattle.reader.specs.served.Judge.{Known, bytes-of}
-use Rattle.reader.specs.declared.judge.Fit.{Fit}
-use Rattle.reader.proofs.SourceBytes.{shape-row, byte-there}
+use Rattle.judge.specs.served.Judge.{Known, bytes-of}
+use Rattle.judge.specs.declared.Fit.{Fit}
+use Rattle.reading.proofs.SourceBytes.{shape-row, byte-there}
 
 -- ---- the modifiers
 

@@ -1,4 +1,1 @@
 pub mod Answers
-pub mod Reader
-pub mod Stray
-pub mod served

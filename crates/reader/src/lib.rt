@@ -2,16 +2,16 @@
 ghost use mathlib.Core.Path.{_≡_};
 ghost use Prim.Native.Nat.{ℕ};
 ghost use Rattle.record.specs.Instructions.{instruction-of};
-ghost use Rattle.reader.specs.Reader.{read-number, read};
+ghost use Rattle.reading.specs.Reader.{read-number, read};
 ghost use Rattle.reader.specs.Answers.{reading};
-ghost use Rattle.reader.specs.served.Judge.{Known, bytes-of};
+ghost use Rattle.judge.specs.served.Judge.{Known, bytes-of};
 use crate::answer::Reading;
-use crate::judge::Fit;
-use crate::judge::Judged;
-use crate::judge::judge_word;
-use crate::judge::refusal_of;
 use bits::bytes::load64;
 use bits::fields::bits_at;
+use judge::Fit;
+use judge::Judged;
+use judge::judge_word;
+use judge::refusal_of;
 use record::answer::Refusal;
 use record::instruction::Instruction;
 use record::instruction::Sources;
@@ -19,7 +19,6 @@ use record::modifiers::modifiers_in;
 use record::offset::offset_of;
 
 pub mod answer;
-pub mod judge;
 
 // The four lowest bytes.
 fn sources_in(s: u64) -> Sources

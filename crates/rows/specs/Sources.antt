@@ -7,8 +7,6 @@ use Prim.Native.Nat.{ℕ, _+_, _-_, _*_, _/_, _%_, _<_, _≤_}
 use lib.Dec.{eqb, ltb}
 use lib.ListN.{getD}
 use Rattle.bits.specs.Fields.{choose}
-use Rattle.rows.specs.declared.sources.Source.{Source}
-use Rattle.rows.specs.declared.sources.Source.the-variants.{Read, Released, Uniform, Immediate, SpecialLow, SpecialHigh, Refused}
 
 -- 002's "Immediates", entries 0 to 31
 abbrev pub immediates : List ℕ
@@ -189,16 +187,6 @@ is-refused refused = true
 -- a source is legal exactly when its meaning isn't refused
 abbrev pub source-legal : ℕ → ℕ → Bool
 source-legal page b = not (is-refused (meaning page b))
-
--- what each answer on a byte stands for; a special constant is told by its number in the page's enumeration
-abbrev pub source-meaning : ℕ → Source → Meaning
-source-meaning page (Read r) = register-read r
-source-meaning page (Released r) = register-released r
-source-meaning page (Uniform u) = uniform u
-source-meaning page (Immediate v) = immediate v
-source-meaning page (SpecialLow i) = special (special-at page i) low-word
-source-meaning page (SpecialHigh i) = special (special-at page i) high-word
-source-meaning page Refused = refused
 
 -- Item 2 of 02 in its own words, of any way of giving bytes a meaning: where the two words of each value stand, that no other byte is one, and
 -- that only words of reserved values are refused, among them all of page 2

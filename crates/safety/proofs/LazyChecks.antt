@@ -16,7 +16,7 @@ use Rattle.rows.specs.Layout.{modifier-at, places, slots}
 use Rattle.rows.specs.Sources.{meaning}
 use Rattle.bits.specs.Signed.{unsigned, signed}
 use Rattle.record.specs.Legality.{judge-modifiers, judge-sources, judge}
-use Rattle.reader.specs.Reader.{lowest-stray, read-row, read}
+use Rattle.reading.specs.Reader.{lowest-stray, read-row, read}
 use Rattle.rows.specs.Layout.{find}
 use Rattle.record.specs.Registers.{reads, kills, defines}
 use Rattle.container.specs.Container.{version-of, count-of, entry-of, words-of, annotations-of}

@@ -14,8 +14,8 @@ use Rattle.record.specs.declared.instruction.Instruction.{Instruction}
 use Rattle.record.specs.declared.answer.Refusal.{Refusal}
 use Rattle.record.specs.Registers.{reads}
 use Rattle.record.proofs.NumberedLaws.{Numbered}
-use Rattle.reader.specs.Reader.{read}
-use Rattle.reader.proofs.NumberedLaws.{read-numbers, eight-numbers}
+use Rattle.reading.specs.Reader.{read}
+use Rattle.reading.proofs.NumberedLaws.{read-numbers, eight-numbers}
 use Rattle.container.specs.declared.header.Header.{Header}
 use Rattle.container.specs.Container.{word-length, count-of, words-of, eight}
 use Rattle.container.specs.Opening.{Rejection, open-outcome}

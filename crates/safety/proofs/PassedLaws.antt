@@ -8,8 +8,8 @@ use Rattle.bits.specs.Outcomes.{Outcome, gives, refuses, passes, _then_}
 use Rattle.bits.proofs.OutcomeLaws.{never, told, then-passed, then-refused}
 use Rattle.record.specs.declared.instruction.Instruction.{Instruction}
 use Rattle.record.specs.declared.answer.Refusal.{Refusal}
-use Rattle.reader.specs.Reader.{read}
-use Rattle.reader.proofs.StrayNamed.{bytes-stray}
+use Rattle.reading.specs.Reader.{read}
+use Rattle.reading.proofs.StrayNamed.{bytes-stray}
 use Rattle.container.specs.Container.{count-of, words-of, eight}
 use Rattle.container.specs.Opening.{open-outcome, Opens}
 use Rattle.container.proofs.OpeningLaws.{length-words}

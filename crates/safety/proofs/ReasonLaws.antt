@@ -15,7 +15,7 @@ use Rattle.bits.proofs.OutcomeLaws.{never, told}
 use Rattle.bits.proofs.SetLaws.{has-dec, has-minus, lowest-in}
 use Rattle.record.specs.declared.instruction.Instruction.{Instruction}
 use Rattle.record.specs.declared.answer.Refusal.{Refusal}
-use Rattle.reader.specs.Reader.{read}
+use Rattle.reading.specs.Reader.{read}
 use Rattle.record.specs.Registers.{reads}
 use Rattle.record.proofs.RegisterLaws.{reads-lt}
 use Rattle.container.specs.declared.header.Header.{Header}

@@ -7,8 +7,8 @@ use Rattle.bits.specs.Outcomes.{gives, refuses}
 use Rattle.record.specs.Answers.{refusal}
 use Rattle.record.specs.declared.instruction.Instruction.{Instruction}
 use Rattle.record.specs.declared.answer.Refusal.{Refusal}
-use Rattle.reader.specs.Reader.{read}
-use Rattle.reader.specs.Stray.{StrayAt}
+use Rattle.reading.specs.Reader.{read}
+use Rattle.reading.specs.Stray.{StrayAt}
 use Rattle.container.specs.Container.{count-of, words-of, eight}
 use Rattle.container.specs.Opening.{Opens}
 use Rattle.safety.specs.declared.verdict.Finding.{Finding}

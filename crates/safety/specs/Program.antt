@@ -15,7 +15,7 @@ use Rattle.bits.specs.Outcomes.{Outcome, gives, refuses}
 use Rattle.record.specs.declared.instruction.Instruction.{Instruction}
 use Rattle.record.specs.declared.answer.Refusal.{Refusal}
 use Rattle.record.specs.Defaults.{default-instruction}
-use Rattle.reader.specs.Reader.{read}
+use Rattle.reading.specs.Reader.{read}
 use Rattle.record.specs.Registers.{reads, kills, defines, ends, branches}
 use Rattle.container.specs.Container.{most-instructions, word-length, annotation-length, count-of, entry-of, words-of, annotations-of, eight}
 use Rattle.container.specs.Opening.{Opens}

@@ -6,7 +6,7 @@ use lib.IntN.{ℤ, pos}
 use Rattle.bits.specs.Sets.{Has}
 use Rattle.bits.specs.Outcomes.{gives, refuses}
 use Rattle.record.specs.declared.answer.Refusal.{Refusal}
-use Rattle.reader.specs.Reader.{read}
+use Rattle.reading.specs.Reader.{read}
 use Rattle.record.specs.Registers.{reads}
 use Rattle.container.specs.Container.{count-of, words-of, eight}
 use Rattle.container.specs.Opening.{Rejection, open-outcome}

@@ -10,7 +10,7 @@ use Rattle.container.specs.Opening.{Rejection, open-outcome}
 use Rattle.safety.specs.Verdict.{Judgement, verdict-of}
 use Rattle.text.specs.Text.{line-feed, digits, digit-count, number-text}
 use Rattle.registertext.specs.Registers.{registers-text}
-use Rattle.show.specs.Lines.{widest, title, lines}
+use Rattle.showlines.specs.Lines.{widest, title, lines}
 use Rattle.verdicttext.specs.Words.{fault-line, fault-index, verdict-text}
 use Rattle.show.specs.Show.{head, program-text, opened-text, shown}
 

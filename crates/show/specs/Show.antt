@@ -10,7 +10,7 @@ use Rattle.safety.specs.Verdict.{Judgement, verdict-of}
 use Rattle.text.specs.Text.{line-feed, number-text}
 use Rattle.registertext.specs.Registers.{registers-text, longest-registers}
 use Rattle.wordtext.specs.Columns.{longest-column}
-use Rattle.show.specs.Lines.{widest, title, lines, longest-line}
+use Rattle.showlines.specs.Lines.{widest, title, lines, longest-line}
 use Rattle.verdicttext.specs.Words.{fault-line, fault-index, verdict-text, longest-fault, longest-verdict}
 
 -- the version, how many instructions there are, and the entry set, which is the supplier's claim

@@ -23,9 +23,7 @@ ghost use Rattle.safety.specs.Verdict.{verdict-outcome};
 ghost use Rattle.text.specs.Text.{Put};
 ghost use Rattle.show.specs.Show.{head, opened-text, shown, longest-head, longest-opened, longest-shown};
 
-mod line;
 mod program;
-mod targets;
 
 // The most bytes that these have.
 const HEAD: usize = 16 + 5 + 1 + 14 + 4 + 1 + 52 + registertext::LONGEST + 2;
@@ -35,7 +33,7 @@ const TITLE: usize = 25 + wordtext::column::LONGEST + 6 + 1;
 // The most bytes that are shown.
 pub const LONGEST: usize = HEAD
     + TITLE
-    + (line::LONGEST + LONGEST_FAULT) * MOST_INSTRUCTIONS
+    + (showlines::line::LONGEST + LONGEST_FAULT) * MOST_INSTRUCTIONS
     + 1
     + verdicttext::words::LONGEST;
 

@@ -1,10 +1,10 @@
 // A program line by line, with the line above that names the columns.
-use crate::line::number_at;
-use crate::line::put_line;
-use crate::line::widest;
-use crate::targets::targets;
 use container::layout::MOST_INSTRUCTIONS;
 use safety::verdict::Verdict;
+use showlines::line::number_at;
+use showlines::line::put_line;
+use showlines::line::widest;
+use showlines::targets::targets;
 use text::put::put_byte;
 use text::put::put_spaces;
 use text::put::put_text;
@@ -21,10 +21,10 @@ ghost use Rattle.safety.specs.Program.{Worded, Annotated};
 ghost use Rattle.safety.specs.Verdict.{verdict-outcome};
 ghost use Rattle.text.specs.Text.{Put};
 ghost use Rattle.wordtext.specs.Columns.{longest-column};
-ghost use Rattle.show.specs.Lines.{line, lines, title, longest-line};
+ghost use Rattle.showlines.specs.Lines.{line, lines, title, longest-line};
 ghost use Rattle.verdicttext.specs.Words.{longest-fault};
 ghost use Rattle.show.specs.Show.{program-text, longest-title};
-ghost use Rattle.show.specs.served.Marks.{marks-of};
+ghost use Rattle.showlines.specs.served.Marks.{marks-of};
 
 // The length of a title.
 const TITLE: usize = 11;

@@ -4,8 +4,9 @@ use mathlib.Core.List.{List, [], _∷_, _++_}
 use Prim.Native.Nat.{ℕ, zero, suc, _+_, _-_, _≤_}
 use native.Mathlib.Omega.{arith}
 use lib.ListN.{length}
-use Rattle.rows.specs.declared.sources.Source.{Source}
-use Rattle.rows.specs.Sources.{meaning, source-meaning}
+use Rattle.sources.specs.declared.Source.{Source}
+use Rattle.sources.specs.SourceMeaning.{source-meaning}
+use Rattle.rows.specs.Sources.{meaning}
 use Rattle.text.specs.Text.{Put}
 use Rattle.text.proofs.TextLaws.{same-text}
 use Rattle.fieldtext.specs.served.Coded.{coded-texts}

@@ -2,8 +2,8 @@
 use fieldtext::modifiers::put_modifiers;
 use fieldtext::specials::put_special;
 use fieldtext::values::Names;
-use rows::sources::Source;
-use rows::sources::meaning;
+use sources::Source;
+use sources::meaning;
 use text::put::put_labelled;
 use text::put::put_text;
 ghost use mathlib.Core.Path.{_≡_};

@@ -19,7 +19,7 @@ use Rattle.bits.proofs.SetLaws.{and-twice}
 use Rattle.record.specs.declared.instruction.Instruction.{Instruction}
 use Rattle.record.specs.declared.answer.Refusal.{Refusal}
 use Rattle.record.specs.Registers.{kills, defines, ends, branches}
-use Rattle.reader.specs.Reader.{read}
+use Rattle.reading.specs.Reader.{read}
 use Rattle.container.specs.Container.{eight}
 use Rattle.safety.specs.Program.{Program, successors, landing, after, instruction-in, instruction-at, program-in}
 use Rattle.safety.specs.Verdict.{Judgement, finding, no-register, first, judge-reading, judge-word}

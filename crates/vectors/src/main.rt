@@ -8,8 +8,7 @@ use record::instruction::Instruction;
 use record::instruction::MODIFIERS;
 use record::instruction::Modifiers;
 use record::instruction::Sources;
-use rows::sources;
-use rows::sources::Source;
+use sources::Source;
 use writer::answer::Written;
 
 fn text(s: &[u8]) {

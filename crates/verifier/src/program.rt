@@ -14,7 +14,7 @@ ghost use mathlib.Core.Path.{_≡_};
 ghost use Prim.Native.Nat.{_*_, _<_, _≤_};
 ghost use Rattle.bits.specs.Outcomes.{refuses, passes, _then_};
 ghost use Rattle.reader.specs.Answers.{reading};
-ghost use Rattle.reader.specs.Reader.{read};
+ghost use Rattle.reading.specs.Reader.{read};
 ghost use Rattle.container.specs.Container.{eight};
 ghost use Rattle.safety.specs.Program.{program-in, annotation-at, Worded, Annotated};
 ghost use Rattle.safety.specs.Verdict.{verdict-outcome, first, judge-word, judge-index, judge-program};

@@ -10,7 +10,7 @@ use Rattle.rows.specs.Names.{ascii}
 use Rattle.record.specs.declared.instruction.Instruction.{Instruction}
 use Rattle.record.specs.declared.answer.Refusal.{Refusal}
 use Rattle.record.specs.Registers.{ends, branches}
-use Rattle.reader.specs.Reader.{read-number}
+use Rattle.reading.specs.Reader.{read-number}
 use Rattle.safety.specs.Program.{landing}
 use Rattle.text.specs.Text.{decimal, number-text}
 use Rattle.disasm.specs.Assembly.{instruction-text, longest-text}

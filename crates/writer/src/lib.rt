@@ -3,24 +3,21 @@ ghost use mathlib.Core.Path.{_≡_};
 ghost use Rattle.bits.specs.Outcomes.{refuses};
 ghost use Rattle.record.specs.Answers.{refusal};
 ghost use Rattle.writer.specs.Answers.{writing};
-ghost use Rattle.writer.specs.Writer.{write, stored};
+ghost use Rattle.writing.specs.Writer.{write, stored};
 use crate::answer::Written;
-use crate::room::numbers_fit;
-use crate::same::is_record;
-use crate::word::word_of;
 use bits::bytes::store64;
-use reader::judge::Judged;
-use reader::judge::judge_word;
-use reader::judge::refusal_of;
+use judge::Judged;
+use judge::judge_word;
+use judge::refusal_of;
 use reader::read_number;
 use record::answer::Refusal;
 use record::instruction::Instruction;
 use rows::table;
+use same::is_record;
+use wordparts::room::numbers_fit;
+use wordparts::word::word_of;
 
 pub mod answer;
-pub mod room;
-pub mod same;
-pub mod word;
 
 // A refusal that names no place.
 fn refused(number: u8) -> Written

@@ -1,13 +1,13 @@
 use mathlib.Core.Path.{sym, ap, _∙_}
-use Rattle.lookup.specs.Opcodes.{row-found}
-use Rattle.lookup.specs.declared.opcodes.RowFound.{RowFound}
+use Rattle.opcoderows.specs.Opcodes.{row-found}
+use Rattle.opcoderows.specs.declared.RowFound.{RowFound}
 use Rattle.codes.specs.Codes.{row-code}
 use borrow.Author.Needs.{needs}
 use Rattle.capi.proofs.vsp_row_of.Statement.{statement}
 use Rattle.capi.proofs.vsp_row_of.Tie as tie
 use Rattle.capi.proofs.vsp_row_of.Reads as reads
 use Rattle.capi.proofs.vsp_row_of.Lts as lts
-use Rattle.lookup.proofs.opcodes.row_with.Reads as row-with-reads
+use Rattle.opcoderows.proofs.row_with.Reads as row-with-reads
 
 row-with-requires : tie.Need-row-with-requires
 row-with-requires c κs = search needs

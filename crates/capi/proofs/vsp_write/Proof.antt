@@ -3,7 +3,7 @@ use Prim.Native.Nat.{ℕ, _<_, _≤_}
 use denote.Ref.{now}
 use Rattle.rows.specs.Rows.{row-count}
 use Rattle.writer.specs.Answers.{writing}
-use Rattle.writer.specs.Writer.{write, stored}
+use Rattle.writing.specs.Writer.{write, stored}
 use Rattle.record.specs.declared.instruction.Instruction.{Instruction}
 use Rattle.codes.proofs.AnswerLaws.{wrong-buffer, no-row, not-0, done, unwritten}
 use borrow.Author.Needs.{needs}

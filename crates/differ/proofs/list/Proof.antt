@@ -1,5 +1,5 @@
 use mathlib.Core.Path.{_∙_}
-use Rattle.container.proofs.WordLaws.{opened-count}
+use Rattle.view.proofs.WordLaws.{opened-count}
 use borrow.Author.Needs.{needs}
 use Rattle.differ.proofs.list.Statement.{statement}
 use Rattle.differ.proofs.list.Tie as tie

@@ -1,4 +1,4 @@
-use Rattle.difftext.specs.Lines.{line-text}
+use Rattle.linetext.specs.Lines.{line-text}
 use Rattle.text.proofs.TextLaws.{put-next}
 use borrow.Author.Needs.{needs}
 use Rattle.difftext.proofs.put_line.Statement.{statement}

@@ -6,7 +6,7 @@ use mir.Syntax.{w32}
 use mir.Val.{SFits}
 use Rattle.bits.specs.Signed.{unsigned}
 use Rattle.record.specs.Lists.{source-list}
-use Rattle.writer.specs.Writer.{heads}
+use Rattle.writing.specs.Writer.{heads}
 use Rattle.form.specs.Form.{half, pick}
 use Rattle.form.proofs.OffsetLaws.{back-is}
 use Rattle.form.proofs.FormLaws.{form-bytes}

@@ -3,7 +3,7 @@ use Prim.Native.Nat.{ℕ}
 use native.Mathlib.Omega.{arith}
 use Rattle.lookup.specs.served.Index.{group, empty, groups, group-at}
 use Rattle.lookup.specs.declared.Group.{Group}
-use Rattle.lookup.proofs.KeyedLaws.{Missed, unlisted, told}
+use Rattle.opcoderows.proofs.KeyedLaws.{Missed, unlisted, told}
 use Rattle.lookup.proofs.group_at.Statement.{statement}
 use Rattle.lookup.proofs.group_at.Tie as tie
 

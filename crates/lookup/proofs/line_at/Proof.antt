@@ -7,7 +7,7 @@ use Rattle.rows.specs.Layout.{places, slots, modifier-at}
 use Rattle.lookup.specs.served.Lines.{line-of}
 use Rattle.lookup.specs.served.Index.{cells, row-under}
 use Rattle.lookup.specs.declared.Line.{Line}
-use Rattle.lookup.proofs.KeyedLaws.{Missed, unlisted, told}
+use Rattle.opcoderows.proofs.KeyedLaws.{Missed, unlisted, told}
 use Rattle.lookup.proofs.line_at.Statement.{statement}
 use Rattle.lookup.proofs.line_at.Tie as tie
 

@@ -2,10 +2,10 @@ use mathlib.Core.Path.{_≡_, sym, ap, _∙_, subst}
 use Prim.Native.Nat.{ℕ, _/_, _%_, _^_, _<_}
 use native.Mathlib.Omega.{arith}
 use lib.Bits.{and-le-r}
-use Rattle.lookup.specs.served.Slots.{slot-of}
+use Rattle.opcoderows.specs.served.Slots.{slot-of}
 use Rattle.lookup.specs.served.Index.{group-at, second-of}
 use Rattle.lookup.specs.declared.Group.{Group}
-use Rattle.lookup.proofs.OpcodeLaws.{own-row}
+use Rattle.lookup.proofs.LineLaws.{own-row}
 use Rattle.lookup.proofs.IndexLaws.{group-small, led-none, led-line}
 use borrow.Author.Needs.{needs}
 use Rattle.lookup.proofs.line_of.Statement.{statement}
@@ -15,7 +15,7 @@ use Rattle.lookup.proofs.line_of.Lts as lts
 use Rattle.bits.proofs.fields.bits_at.Reads as bits-at-reads
 use Rattle.lookup.proofs.group_at.Reads as group-at-reads
 use Rattle.lookup.proofs.line_at.Reads as line-at-reads
-use Rattle.lookup.proofs.opcodes.slot_of.Reads as slot-of-reads
+use Rattle.opcoderows.proofs.slot_of.Reads as slot-of-reads
 
 -- a group is small
 small : (s w : ℕ) {g : Group} → g ≡ group-at s → (second-of g w < 32) × (g .cell < 256)

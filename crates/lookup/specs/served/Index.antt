@@ -3,7 +3,7 @@ use mathlib.Core.List.{List, [], _∷_}
 use Prim.Native.Nat.{ℕ, _/_, _%_, _^_}
 use lib.Bits.{bitAnd}
 use Rattle.rows.specs.Rows.{row-count}
-use Rattle.lookup.specs.served.Keyed.{Keyed, keyed, lookup}
+use Rattle.opcoderows.specs.served.Keyed.{Keyed, keyed, lookup}
 use Rattle.lookup.specs.declared.Group.{Group}
 
 abbrev pub group : ℕ → ℕ → ℕ → ℕ → Group

@@ -5,7 +5,7 @@ use Prim.Native.Nat.{ℕ, _*_}
 use native.Mathlib.Omega.{arith}
 use Rattle.record.specs.Lists.{modifiers-of}
 use Rattle.record.specs.Instructions.{offset-of}
-use Rattle.reader.proofs.TestLaws.{times-bit}
+use Rattle.judge.proofs.TestLaws.{times-bit}
 use Rattle.reader.proofs.KnownLaws.{row-known, sources-known, modifiers-known, offset-known}
 use borrow.Author.Needs.{needs}
 use Rattle.reader.proofs.instruction_of.Statement.{statement}

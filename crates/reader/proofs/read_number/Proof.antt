@@ -1,14 +1,14 @@
 use mathlib.Core.Path.{sym, ap, _∙_, subst}
 use Rattle.bits.specs.Outcomes.{gives, refuses}
-use Rattle.reader.specs.served.Judge.{Judges}
+use Rattle.judge.specs.served.Judge.{Judges}
 use borrow.Author.Needs.{needs}
 use Rattle.reader.proofs.read_number.Statement.{statement}
 use Rattle.reader.proofs.read_number.Tie as tie
 use Rattle.reader.proofs.read_number.Reads as reads
 use Rattle.reader.proofs.read_number.Lts as lts
 use Rattle.reader.proofs.instruction_of.Reads as instruction-of-reads
-use Rattle.reader.proofs.judge.judge_word.Reads as judge-word-reads
-use Rattle.reader.proofs.judge.refusal_of.Reads as refusal-of-reads
+use Rattle.judge.proofs.judge_word.Reads as judge-word-reads
+use Rattle.judge.proofs.refusal_of.Reads as refusal-of-reads
 
 judge-word-requires : tie.Need-judge-word-requires
 judge-word-requires c κs = search needs

@@ -5,23 +5,23 @@ use borrow.Author.Tests.{not-true, not-false}
 use Rattle.bits.specs.Outcomes.{Outcome, refuses}
 use Rattle.record.specs.declared.instruction.Instruction.{Instruction}
 use Rattle.record.specs.declared.answer.Refusal.{Refusal}
-use Rattle.reader.specs.served.Judge.{Judges}
-use Rattle.writer.specs.Writer.{is-record}
-use Rattle.writer.proofs.WriterLaws.{wrong-buffer, off-table, no-room-in, declined, unread, done}
+use Rattle.judge.specs.served.Judge.{Judges}
+use Rattle.writing.specs.Writer.{is-record}
+use Rattle.writing.proofs.WriterLaws.{wrong-buffer, off-table, no-room-in, declined, unread, done}
 use borrow.Author.Needs.{needs}
 use Rattle.writer.proofs.write_buffer.Statement.{statement}
 use Rattle.writer.proofs.write_buffer.Tie as tie
 use Rattle.writer.proofs.write_buffer.Reads as reads
 use Rattle.writer.proofs.write_buffer.Lts as lts
 use Rattle.bits.proofs.bytes.store64.Reads as store64-reads
-use Rattle.reader.proofs.judge.judge_word.Reads as judge-word-reads
-use Rattle.reader.proofs.judge.refusal_of.Reads as refusal-of-reads
+use Rattle.judge.proofs.judge_word.Reads as judge-word-reads
+use Rattle.judge.proofs.refusal_of.Reads as refusal-of-reads
 use Rattle.reader.proofs.read_number.Reads as read-number-reads
 use Rattle.rows.proofs.table.row_at.Reads as row-at-reads
 use Rattle.writer.proofs.refused.Reads as refused-reads
-use Rattle.writer.proofs.room.numbers_fit.Reads as numbers-fit-reads
-use Rattle.writer.proofs.same.is_record.Reads as is-record-reads
-use Rattle.writer.proofs.word.word_of.Reads as word-of-reads
+use Rattle.wordparts.proofs.room.numbers_fit.Reads as numbers-fit-reads
+use Rattle.same.proofs.is_record.Reads as is-record-reads
+use Rattle.wordparts.proofs.word.word_of.Reads as word-of-reads
 
 refused-requires : tie.Need-refused-requires
 refused-requires c κs = search needs

@@ -3,7 +3,7 @@ use Prim.Native.Nat.{ℕ}
 use native.Mathlib.Omega.{arith}
 use denote.Ref.{now}
 use Rattle.bits.proofs.Every.{clash}
-use Rattle.reader.specs.Reader.{read-number}
+use Rattle.reading.specs.Reader.{read-number}
 use Rattle.safety.specs.Program.{instruction-in}
 use Rattle.differences.specs.Records.{contents}
 use Rattle.differences.specs.Differences.{word-of}

@@ -1,6 +1,6 @@
 use native.Mathlib.Omega.{arith}
 use Rattle.rows.specs.Names.{ascii}
-use Rattle.difftext.specs.Lines.{arrow}
+use Rattle.linetext.specs.Lines.{arrow}
 use Rattle.text.proofs.TextLaws.{put-next}
 use borrow.Author.Needs.{needs}
 use Rattle.difftext.proofs.told.put_rows.Statement.{statement}

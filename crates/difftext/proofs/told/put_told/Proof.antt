@@ -5,7 +5,7 @@ use Rattle.rows.specs.Names.{ascii}
 use Rattle.differences.specs.declared.line.What.{What}
 use Rattle.text.specs.Text.{space, decimal, Put}
 use Rattle.text.proofs.TextLaws.{same-text}
-use Rattle.difftext.specs.Lines.{head, both, told, longest-told}
+use Rattle.linetext.specs.Lines.{head, both, told, longest-told}
 use borrow.Author.Needs.{needs}
 use Rattle.difftext.proofs.told.put_told.Statement.{statement}
 use Rattle.difftext.proofs.told.put_told.Tie as tie

@@ -5,7 +5,7 @@ use native.Mathlib.Omega.{arith}
 use lib.ListN.{length, length-take, length-drop}
 use denote.Ref.{now}
 use Rattle.container.specs.Container.{count-of, words-of}
-use Rattle.container.proofs.WordLaws.{opened-count}
+use Rattle.view.proofs.WordLaws.{opened-count}
 use Rattle.text.specs.Text.{Put}
 use Rattle.listing.specs.Listing.{lines, longest-line}
 use Rattle.text.proofs.TextLaws.{put-next}

@@ -1,6 +1,6 @@
 use mathlib.Core.Path.{sym, ap, _∙_}
 use denote.Ref.{now}
-use Rattle.container.specs.Words.{fetched-outcome}
+use Rattle.view.specs.Words.{fetched-outcome}
 use Rattle.listing.specs.Listing.{line}
 use Rattle.text.proofs.TextLaws.{same-text}
 use Rattle.listing.proofs.LineLaws.{fetched, never-missing}

@@ -2,7 +2,7 @@ use mathlib.Core.Path.{_≡_, ap, _∙_}
 use native.Mathlib.Omega.{arith}
 use denote.Ref.{now}
 use Rattle.text.proofs.TextLaws.{put-next, same-text}
-use Rattle.show.proofs.LineLaws.{mark-tells, same-line, not-here, here}
+use Rattle.showlines.proofs.LineLaws.{mark-tells, same-line, not-here, here}
 use borrow.Author.Needs.{needs}
 use Rattle.show.proofs.program.put_entry.Statement.{statement}
 use Rattle.show.proofs.program.put_entry.Tie as tie

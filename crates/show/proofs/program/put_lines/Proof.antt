@@ -5,9 +5,9 @@ use lib.ListN.{length, length-take, length-drop}
 use denote.Ref.{now}
 use Rattle.text.specs.Text.{Put}
 use Rattle.text.proofs.TextLaws.{put-next, same-text}
-use Rattle.show.specs.Lines.{lines, longest-line}
+use Rattle.showlines.specs.Lines.{lines, longest-line}
 use Rattle.verdicttext.specs.Words.{longest-fault}
-use Rattle.show.proofs.LineLaws.{no-lines, line-more}
+use Rattle.showlines.proofs.LineLaws.{no-lines, line-more}
 use Rattle.show.proofs.program.put_lines.Statement.{statement}
 use Rattle.show.proofs.program.put_lines.Tie as tie
 

@@ -6,7 +6,7 @@ use lib.ListN.{replicate}
 use Rattle.rows.specs.Names.{ascii}
 use Rattle.text.specs.Text.{space}
 use Rattle.text.proofs.TextLaws.{put-next, same-text}
-use Rattle.show.proofs.LineLaws.{titled}
+use Rattle.showlines.proofs.LineLaws.{titled}
 use borrow.Author.Needs.{needs}
 use Rattle.show.proofs.program.put_title.Statement.{statement}
 use Rattle.show.proofs.program.put_title.Tie as tie

@@ -3,7 +3,7 @@ use Prim.Native.Nat.{ℕ, _*_}
 use native.Mathlib.Nat.{add-sub-cancel-left}
 use denote.Ref.{now}
 use lib.ListN.{take, drop}
-use Rattle.reader.specs.Reader.{read}
+use Rattle.reading.specs.Reader.{read}
 use borrow.Author.Needs.{needs}
 use Rattle.verifier.proofs.program.reading_at.Statement.{statement}
 use Rattle.verifier.proofs.program.reading_at.Tie as tie

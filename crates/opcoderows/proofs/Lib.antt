@@ -1,0 +1,4 @@
+pub mod KeyedLaws
+pub mod SlotLaws
+pub mod OpcodeLaws
+pub mod RunLaws
