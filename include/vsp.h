@@ -219,12 +219,15 @@ uint32_t vsp_read(const uint8_t *word, size_t length, uint8_t form[VSP_FORM]);
 uint32_t vsp_write(const uint8_t form[VSP_FORM], uint8_t *word, size_t length);
 
 /*
- * Makes the fresh instruction of a row, the one to start from. Beside the row's number all of
- * it is 0 (so each source is a plain read of r0), but for the half mask, 3 where the row has
- * a destination, the 16-bit swizzles, 2 (the identity), and mux, 1.
+ * Makes the fresh instruction of a row, the one to start from. Apart from the row's number all
+ * of it is 0, except: each source that the row has is 192 (0xC0, constant entry 0, which is the
+ * number 0); the half mask is 3 where the row has a destination; the 16-bit swizzles are 2 (the
+ * identity); mux is 1.
  *
  * Gives 0 and fills all 32 bytes of the form, or 2 where the row is over 76 and leaves the
- * form as it was. A fresh instruction can always be written.
+ * form as it was. A fresh instruction can always be written. It reads no register: with its
+ * flow, byte 2, set to 15 (end), its word alone, with an empty entry set and an empty note, is
+ * a parcel that vsp_check accepts.
  */
 uint32_t vsp_fresh(size_t row, uint8_t form[VSP_FORM]);
 

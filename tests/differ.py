@@ -11,7 +11,7 @@ import random
 import subprocess
 import sys
 from front import write, write_comparison
-from paper01 import ROWS, contents, differ, differences, misfit, parcel, parts, row_number, source_legal, word
+from paper01 import R0, ROWS, contents, differ, differences, misfit, parcel, parts, row_number, source_legal, word
 
 LONGEST = 32784
 A = 0x0091C10000000002  # MOV r1, r2
@@ -22,8 +22,13 @@ APPROVED = [0x00A4C20000008040, 0x00A4C30000008141, 0x009CC40000000082, 0x00A4C2
 FLOWS = [flow for flow in range(16) if flow not in (11, 12, 14)]
 
 
-def of(name, **fields):
-    return word(row_number(name), **fields)
+def on_r0(k, sources=R0, **others):
+    """The word of row k with r0 as each source where none is named."""
+    return word(k, sources=sources, **others)
+
+
+def of(name, **others):
+    return on_r0(row_number(name), **others)
 
 
 def alone(w, entry=(), note=()):
@@ -110,23 +115,23 @@ def every_field():
     """For each row and each field of it another content, one field an instruction; and what is listed then."""
     firsts, seconds, lines = [], [], []
 
-    def pair(fresh, other, text):
+    def pair(usual, other, text):
         lines.append(f'{len(firsts):04d} {text}\n')
-        firsts.append(fresh)
+        firsts.append(usual)
         seconds.append(other)
     for k, row in enumerate(ROWS):
-        fresh = word(k)
-        pair(fresh, word(k, page=2), 'page 0 -> 2')
-        pair(fresh, word(k, flow=13), 'flow 0 -> D')
+        first = on_r0(k)
+        pair(first, on_r0(k, page=2), 'page 0 -> 2')
+        pair(first, on_r0(k, flow=13), 'flow 0 -> D')
         if row['destination']:
-            pair(fresh, word(k, register=5), 'destination C0 -> C5')
-            pair(fresh, word(k, mask=1), 'destination C0 -> 40')
-            pair(fresh, word(k, register=63, mask=2), 'destination C0 -> BF')
+            pair(first, on_r0(k, register=5), 'destination C0 -> C5')
+            pair(first, on_r0(k, mask=1), 'destination C0 -> 40')
+            pair(first, on_r0(k, register=63, mask=2), 'destination C0 -> BF')
         for j in range(row['sources']):
-            pair(fresh, word(k, sources=[0] * j + [64] + [0] * 3), f'source {j} 00 -> 40')
+            pair(first, on_r0(k, sources=[0] * j + [64] + [0] * 3), f'source {j} 00 -> 40')
         for low, _, legal, usual in row['fields']:
             other = max(legal - {usual})
-            pair(fresh, word(k, fields={low: other}), f'modifier {low:02d} ' + ('%07X -> %07X' if low == 8 else '%X -> %X') % (usual, other))
+            pair(first, on_r0(k, fields={low: other}), f'modifier {low:02d} ' + ('%07X -> %07X' if low == 8 else '%X -> %X') % (usual, other))
     return plain(firsts), plain(seconds), ''.join(lines)
 
 
@@ -208,8 +213,8 @@ pairs = {
     'offset-over-sources': (alone(of('BRANCHZ', offset=0x010203)), alone(of('CSEL.f32', sources=(0, 3, 2, 1))),
                             '0000 row 01 BRANCHZ -> 03 CSEL.f32\n0000 destination 00 -> C0\n0000 source 1 00 -> 03\n0000 source 2 00 -> 02\n'
                             '0000 source 3 00 -> 01\n0000 modifier 08 0010203 -> 0000000\n'),
-    'next-row': (plain([word(k) for k in range(76)]), plain([word(k) for k in range(1, 77)]), None),
-    'row-far-away': (plain([word(k) for k in range(77)]), plain([word(76 - k) for k in range(77)]), None),
+    'next-row': (plain([on_r0(k) for k in range(76)]), plain([on_r0(k) for k in range(1, 77)]), None),
+    'row-far-away': (plain([on_r0(k) for k in range(77)]), plain([on_r0(76 - k) for k in range(77)]), None),
     # longer ones
     'one-added': (plain([NOP, B]), plain([NOP, B, A]), '0002 added 0091C10000000002 MOV.i32\n'),
     'one-removed': (plain([NOP, B, A]), plain([NOP, B]), '0002 removed 0091C10000000002 MOV.i32\n'),

@@ -7,7 +7,7 @@ Verdicts, places and entry sets are worked out from the paper (paper01.py)."""
 import os
 import sys
 from disassembly import reason
-from paper01 import check, difference_text, differences, listing, members, opening, parcel, parts, row_number, verdict_line, word
+from paper01 import R0, check, difference_text, differences, listing, members, opening, parcel, parts, row_number, verdict_line, word
 
 B = 0x7800000000000000  # NOP, end
 FIVE = parcel([0, 0, 0, 0, B], [[]] * 5, [])
@@ -34,8 +34,8 @@ parcels = {
     'word-4': unreadable(0x5891C10000000002),
     'word-5': unreadable(0x0091010000000002),
     'word-6-bit-32': unreadable(0x00F0C00600020100),
-    'word-6-bit-8': unreadable(word(row_number('FLUSH.f32'), fields={8: 3})),
-    'word-6-bit-37': unreadable(word(row_number('BRANCHZ'), fields={37: 5})),
+    'word-6-bit-8': unreadable(word(row_number('FLUSH.f32'), sources=R0, fields={8: 3})),
+    'word-6-bit-37': unreadable(word(row_number('BRANCHZ'), sources=R0, fields={37: 5})),
     'word-7-source-0': unreadable(0x0091C100000000E0),
     'word-7-source-1': unreadable(word(row_number('FADD.f32'), sources=(1, 224))),
     'word-7-source-3': unreadable(word(row_number('CSEL.f32'), sources=(0, 1, 2, 225))),

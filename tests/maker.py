@@ -9,7 +9,7 @@ import os
 import random
 import sys
 from front import answer
-from paper01 import check, infer, members, parcel, row_number, word
+from paper01 import R0, check, infer, members, parcel, row_number, word
 
 ALL = range(64)
 A = 0x0091C10000000002  # MOV r1, r2
@@ -77,7 +77,7 @@ cases = {
     'word-4': ([NOP, 0x5891C10000000002, B], [3], (4, 0, 1)),
     'word-5': ([NOP, 0x0091010000000002, B], [3], (5, 0, 1)),
     'word-6-bit-32': ([NOP, 0x00F0C00600020100, B], [3], (6, 32, 1)),
-    'word-6-bit-8': ([NOP, word(row_number('FLUSH.f32'), fields={8: 3}), B], [3], (6, 8, 1)),
+    'word-6-bit-8': ([NOP, word(row_number('FLUSH.f32'), sources=R0, fields={8: 3}), B], [3], (6, 8, 1)),
     'word-7-source-0': ([0x0091C100000000E0], [], (7, 0, 0)),
     'word-7-source-3': ([NOP, word(row_number('CSEL.f32'), sources=(0, 1, 2, 225)), B], [3], (7, 3, 1)),
     'a-parcel': (parcel([B], [[]], []), [], (2, 0, 0)),

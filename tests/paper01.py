@@ -1,4 +1,4 @@
-"""Paper 01, and Items 1, 2 and 4 of paper 02, in plain Python, written from the papers and source document 002 alone.
+"""Paper 01, and Items 1, 2, 4, 5 and 6 of paper 02, in plain Python, written from the papers and source document 002 alone.
 
 It is the second opinion from which the expected outputs of the tests are made; it shares no table with the Rattle code."""
 
@@ -226,8 +226,12 @@ def read(data):
     return 'read', k
 
 
-def word(row, page=0, flow=0, register=0, mask=3, sources=(0, 0, 0, 0), fields=None, offset=0):
-    """The word of a record that is legal."""
+ENTRY_0 = 192  # the source byte for constant entry 0
+R0 = (0, 0, 0, 0)  # r0 as every source
+
+
+def word(row, page=0, flow=0, register=0, mask=3, sources=(ENTRY_0,) * 4, fields=None, offset=0):
+    """The word of a row's fresh record (02, Item 6), with the parts that are named."""
     r = ROWS[row]
     w = r['opcode'] << 48 | page << 57 | flow << 59
     if r['second'] is not None:

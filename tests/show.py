@@ -12,9 +12,9 @@ import random
 import subprocess
 import sys
 import front
-from differ import bit_flipped, random_word
+from differ import bit_flipped, on_r0, random_word
 from disassembly import left_out, shown, text, text_of
-from paper01 import ROWS, infer, opening, parcel, read, row_number, word
+from paper01 import R0, ROWS, infer, opening, parcel, read, row_number, word
 
 ALL = range(64)
 A = 0x0091C10000000002  # MOV r1, r2
@@ -96,7 +96,7 @@ def holds_in_names():
 TWOS = [r for r in ALL if r % 3 != 2]
 SHAPES = [[], [0], [63], ALL, [0, 63], [0, 1], [62, 63], range(63), range(1, 64), range(0, 64, 2), range(1, 64, 2), TWOS, [0, 1, 2, 3, 5], [9, 10, 11, 20]]
 UNREADABLE = [FMA, 0x0091C10000010002, 0x00A0C00000000201, 0x00F8C00002020100, 0x00B4C00000030201, 1 << 63, 0x5891C10000000002, 0x0091010000000002,
-              0x00F0C00600020100, word(row_number('FLUSH.f32'), fields={8: 3}), 0x0091C100000000E0, word(row_number('CSEL.f32'), sources=(0, 1, 2, 225))]
+              0x00F0C00600020100, word(row_number('FLUSH.f32'), sources=R0, fields={8: 3}), 0x0091C100000000E0, word(row_number('CSEL.f32'), sources=(0, 1, 2, 225))]
 
 
 def note(i):
@@ -273,11 +273,11 @@ def in_parcels(words):
 def every_value():
     """Each row with each content of each field, legal or not."""
     for k, row in enumerate(ROWS):
-        yield from (word(k, flow=flow) for flow in range(16))
-        yield from (word(k, page=page, mask=mask, register=40 + page) for page in range(4) for mask in range(4))
-        yield from (word(k, fields={low: value}) for low, width, _, _ in row['fields'] for value in range(1 << width))
-        yield from (word(k, sources=[0] * j + [byte] + [0] * 4) for j in range(row['sources']) for byte in (63, 64, 127, 128, 191, 192, 229, 255))
-        yield from (word(k, offset=offset) for offset in (1, -1, 1 << 25, (1 << 26) - 1, -1 << 26) if row['offset'])
+        yield from (on_r0(k, flow=flow) for flow in range(16))
+        yield from (on_r0(k, page=page, mask=mask, register=40 + page) for page in range(4) for mask in range(4))
+        yield from (on_r0(k, fields={low: value}) for low, width, _, _ in row['fields'] for value in range(1 << width))
+        yield from (on_r0(k, sources=[0] * j + [byte] + [0] * 4) for j in range(row['sources']) for byte in (63, 64, 127, 128, 191, 192, 229, 255))
+        yield from (on_r0(k, offset=offset) for offset in (1, -1, 1 << 25, (1 << 26) - 1, -1 << 26) if row['offset'])
 
 
 def every_source():

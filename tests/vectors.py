@@ -1,5 +1,5 @@
 """What the program vectors must print, worked out from the paper (paper01.py)."""
-from paper01 import ROWS, meaning, read, word, row_number
+from paper01 import R0, ROWS, meaning, read, word, row_number
 
 
 def answer(result):
@@ -20,7 +20,7 @@ print('write row 77: refused 2 0, buffer kept')
 print('fresh 77: refused 2 0')
 print('write offset 67108864: refused 9 0, buffer kept')
 for offset in (67108863, -67108864):
-    print(f'write offset {offset}: {word(row_number("BRANCHZ"), offset=offset):016x}')
+    print(f'write offset {offset}: {word(row_number("BRANCHZ"), sources=R0, offset=offset):016x}')
 print('write offset -67108865: refused 9 0, buffer kept')
 for w in (0xD8A40000300002E0, 0x58A40000300002E0, 0x00A40000300002E0, 0x00A4C000300002E0, 0x00A4C000000002E0, 0x00A4C00000000201):
     reads(w)

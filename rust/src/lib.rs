@@ -213,7 +213,9 @@ pub fn write(form: &Form, word: &mut [u8]) -> Result<(), Refusal> {
     answer(raw::write(&form.to_bytes(), word))
 }
 
-/// The fresh instruction of a row, 0 to 76.
+/// The fresh instruction of a row, 0 to 76. Each source that the row has is constant entry 0 (byte
+/// 0xC0), so the instruction reads no register: alone in a parcel, with `flow: 15` (`end`), an empty
+/// entry set and an empty note, it is accepted.
 pub fn fresh(row: u64) -> Result<Form, Refusal> {
     let mut form = [0; FORM];
     answer(raw::fresh(row, &mut form)).map(|()| Form::from_bytes(&form))

@@ -5,10 +5,8 @@
 mod common;
 
 use common::{Comparer, compile};
-use inputs::{Rng, encode, instruction, parcel, refused_word};
-use reference::{
-    Difference, Instruction, MODIFIER_BITS, ROW_COUNT, ROWS, Refusal, Row, Side, Unread, What, fresh, read,
-};
+use inputs::{Rng, encode, instruction, on_r0, parcel, refused_word};
+use reference::{Difference, Instruction, MODIFIER_BITS, ROW_COUNT, ROWS, Refusal, Row, Side, Unread, What, read};
 use std::collections::HashSet;
 use std::path::{Path, PathBuf};
 use std::process::{Command, Output};
@@ -134,8 +132,8 @@ fn with(mut instruction: Instruction, low: u8, value: u8) -> Instruction {
     instruction
 }
 
-fn fresh_of(name: &str) -> Instruction {
-    fresh(row(name).into()).unwrap()
+fn plain(name: &str) -> Instruction {
+    on_r0(row(name))
 }
 
 #[test]
@@ -188,8 +186,7 @@ fn values_of_modifiers() {
     let mut comparer = Comparer::new(604);
     let mut pairs = 0;
     for number in 0..ROW_COUNT as u8 {
-        let fresh = fresh(number.into()).unwrap();
-        let at = |low, value| Parts::single(&with(fresh, low, value));
+        let at = |low, value| Parts::single(&with(on_r0(number), low, value));
         for (low, modifier) in MODIFIER_BITS.iter().zip(ROWS[number as usize].modifiers) {
             let legal: Vec<u8> = (0..16).filter(|value| modifier.legal >> value & 1 != 0).collect();
             for (k, a) in legal.iter().enumerate() {
@@ -208,7 +205,7 @@ fn values_of_modifiers() {
 #[test]
 fn destinations() {
     let mut comparer = Comparer::new(605);
-    let mov = fresh_of("MOV.i32");
+    let mov = plain("MOV.i32");
     let first = Parts::single(&Instruction { register: 9, half_mask: 2, ..mov });
     for half_mask in 1..=3 {
         for register in 0..64 {
@@ -247,24 +244,24 @@ fn shared_modifier_bits() {
     let mut comparer = Comparer::new(608);
     // Condition, clamp and mux at bit 32; swizzle, negate and eq at bit 36.
     let cases: [(Instruction, Instruction, &[Difference]); 6] = [
-        (with(fresh_of("CSEL.f32"), 32, 3), with(fresh_of("MUX.i32"), 32, 3), &[]),
-        (with(fresh_of("CSEL.f32"), 32, 5), with(fresh_of("MUX.i32"), 32, 1), &[line(What::Modifier(32), 0, 5, 1)]),
+        (with(plain("CSEL.f32"), 32, 3), with(plain("MUX.i32"), 32, 3), &[]),
+        (with(plain("CSEL.f32"), 32, 5), with(plain("MUX.i32"), 32, 1), &[line(What::Modifier(32), 0, 5, 1)]),
         (
-            with(fresh_of("DISCARD.f32"), 32, 4),
-            with(fresh_of("FADD.f32"), 32, 0),
+            with(plain("DISCARD.f32"), 32, 4),
+            with(plain("FADD.f32"), 32, 0),
             &[line(What::Destination, 0, 0, 0xC0), line(What::Modifier(32), 0, 4, 0)],
         ),
         // Four bits against one: the other three are fields of their own, which IABS lacks.
         (
-            with(fresh_of("IABS.v2s16"), 36, 3),
-            with(with(fresh_of("FADD.f32"), 36, 1), 37, 1),
+            with(plain("IABS.v2s16"), 36, 3),
+            with(with(plain("FADD.f32"), 36, 1), 37, 1),
             &[line(What::Modifier(36), 0, 3, 1), line(What::Modifier(37), 0, 0, 1)],
         ),
-        (with(fresh_of("IABS.s32"), 36, 0), with(fresh_of("FADD.f32"), 36, 0), &[]),
+        (with(plain("IABS.s32"), 36, 0), with(plain("FADD.f32"), 36, 0), &[]),
         // Three bits at 37 and one at 36 against four at 36.
         (
-            with(with(fresh_of("BRANCHZ"), 36, 1), 37, 4),
-            with(fresh_of("IABS.v2s16"), 36, 9),
+            with(with(plain("BRANCHZ"), 36, 1), 37, 4),
+            with(plain("IABS.v2s16"), 36, 9),
             &[
                 line(What::Destination, 0, 0, 0xC0),
                 line(What::Modifier(36), 0, 1, 9),
@@ -299,8 +296,8 @@ fn offset_against_nan_mode() {
         for (offset, raw) in offsets {
             for fields in 0..12 {
                 let (mode, ftz, infinity) = (fields % 3, fields / 3 % 2, fields / 6);
-                let flush = with(with(with(fresh_of(name), 8, mode), 10, ftz), 11, infinity);
-                let branch = Instruction { offset, ..fresh_of("BRANCHZ") };
+                let flush = with(with(with(plain(name), 8, mode), 10, ftz), 11, infinity);
+                let branch = Instruction { offset, ..plain("BRANCHZ") };
                 let list = compare(&mut comparer, &Parts::single(&branch), &Parts::single(&flush));
                 let mut wanted = vec![
                     line(What::Row, 0, 1, row(name).into()),

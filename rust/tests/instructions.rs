@@ -4,8 +4,9 @@
 mod common;
 
 use common::{Tally, compare_fresh, compare_write, form};
-use inputs::{BRANCH, Rng, instruction, misfit};
-use reference::ROW_COUNT;
+use inputs::{BRANCH, Rng, instruction, misfit, parcel};
+use reference::{ROW_COUNT, ROWS};
+use vsp::{Form, Verdict};
 
 fn rows() -> std::ops::Range<u8> {
     0..ROW_COUNT as u8
@@ -138,5 +139,28 @@ fn fresh_instructions() {
             assert_eq!(compare_fresh(&mut rng, (1 << shift) + low), 2, "2^{shift} + {low}");
             assert_eq!(compare_fresh(&mut rng, u64::MAX - low), 2);
         }
+    }
+}
+
+/// The verdict on an instruction alone, with flow `end`, an empty entry set and an empty note.
+fn trial(form: Form) -> Verdict {
+    let mut word = [0; 8];
+    vsp::write(&Form { flow: 15, ..form }, &mut word).unwrap();
+    vsp::check(&parcel(0, &[u64::from_le_bytes(word)], &[0]))
+}
+
+/// Constant entry 0 in each source that the row has, 0 in the others; nothing is read. On r0 rows
+/// with a source are refused with 20.
+#[test]
+fn fresh_instructions_are_accepted() {
+    let refused = Verdict::Refused { number: 20, place: 0, index: 0, register: 0 };
+    for (number, row) in ROWS.iter().enumerate() {
+        let fresh = vsp::fresh(number as u64).unwrap();
+        let mut sources = [0xC0; 4];
+        sources[row.sources..].fill(0);
+        assert_eq!(fresh.sources, sources, "{}", row.name);
+        assert_eq!(trial(fresh), Verdict::Accepted, "{}", row.name);
+        let expected = if row.sources == 0 { Verdict::Accepted } else { refused };
+        assert_eq!(trial(Form { sources: [0; 4], ..fresh }), expected, "{}", row.name);
     }
 }

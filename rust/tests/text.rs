@@ -4,15 +4,11 @@
 mod common;
 
 use common::{compare_name, compare_text, form};
-use inputs::{BRANCH, Rng, instruction, mesa, misfit};
-use reference::{Instruction, MODIFIERS, ROW_COUNT, ROWS, fresh};
+use inputs::{BRANCH, Rng, instruction, mesa, misfit, on_r0};
+use reference::{Instruction, MODIFIERS, ROW_COUNT, ROWS};
 
 fn rows() -> std::ops::Range<u8> {
     0..ROW_COUNT as u8
-}
-
-fn fresh_of(row: u8) -> Instruction {
-    fresh(row.into()).unwrap()
 }
 
 fn compare(rng: &mut Rng, instruction: &Instruction) -> String {
@@ -66,12 +62,12 @@ fn legal_instructions_of_every_row() {
     }
 }
 
-/// In the fresh instruction and in one with all kinds of values.
+/// In the fresh instruction on r0 and in one with all kinds of values.
 #[test]
 fn every_value_of_every_modifier() {
     let mut rng = Rng::new(702);
     for row in rows() {
-        for plain in [fresh_of(row), misfit(&mut rng, row)] {
+        for plain in [on_r0(row), misfit(&mut rng, row)] {
             for k in 0..MODIFIERS {
                 for value in 0..=255 {
                     let mut other = plain;
@@ -88,7 +84,7 @@ fn modifiers_together() {
     let mut rng = Rng::new(703);
     for row in rows() {
         for _ in 0..1_000 {
-            let mut other = fresh_of(row);
+            let mut other = on_r0(row);
             let largest = rng.pick(&[1, 3, 15, 31, 255]);
             other.modifiers = other.modifiers.map(|_| rng.byte() & largest);
             compare(&mut rng, &other);
@@ -134,11 +130,11 @@ fn every_page() {
     let mov = ROWS.iter().position(|row| row.name == "MOV.i32").unwrap() as u8;
     for page in 0..=255 {
         for byte in 0..=255 {
-            compare(&mut rng, &Instruction { page, sources: [byte, 0, 0, 0], ..fresh_of(mov) });
+            compare(&mut rng, &Instruction { page, sources: [byte, 0, 0, 0], ..on_r0(mov) });
         }
         for row in rows() {
             let sources = [rng.byte(), rng.byte(), rng.byte(), rng.byte()];
-            compare(&mut rng, &Instruction { page, sources, ..fresh_of(row) });
+            compare(&mut rng, &Instruction { page, sources, ..on_r0(row) });
         }
     }
 }
@@ -155,10 +151,10 @@ fn offsets() {
     }
     offsets.extend((0..10_000).map(|_| rng.bits() as i32 >> rng.below(32)));
     for offset in offsets {
-        let text = compare(&mut rng, &Instruction { offset, ..fresh_of(BRANCH) });
+        let text = compare(&mut rng, &Instruction { offset, ..on_r0(BRANCH) });
         assert_eq!(text, format!("BRANCHZ r0, offset:{offset}"));
         let row = rng.pick(&[0, 2, 3, 30, 53, 76, 77, 255]);
-        let other = Instruction { row, ..fresh_of(0) };
+        let other = Instruction { row, ..on_r0(0) };
         assert_eq!(compare(&mut rng, &Instruction { offset, ..other }), compare(&mut rng, &other));
     }
 }
@@ -173,7 +169,7 @@ fn every_row() {
             any[..3].copy_from_slice(&[row, rng.byte(), flow]);
             let text = compare_text(&mut rng, &any);
             if usize::from(row) >= ROW_COUNT {
-                let nop = compare(&mut rng, &Instruction { flow, ..fresh_of(0) });
+                let nop = compare(&mut rng, &Instruction { flow, ..on_r0(0) });
                 assert_eq!(text, nop.replace("NOP", "?"));
             }
         }

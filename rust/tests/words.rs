@@ -3,15 +3,11 @@
 mod common;
 
 use common::{Tally, compare_read, compare_word};
-use inputs::{Rng, assigned, encode, instruction, misfit, pack, refused_word};
-use reference::{Instruction, MODIFIER_BITS, ROW_COUNT, ROWS, fresh};
+use inputs::{Rng, assigned, encode, instruction, misfit, on_r0, pack, refused_word};
+use reference::{MODIFIER_BITS, ROW_COUNT, ROWS};
 
 fn rows() -> std::ops::Range<u8> {
     0..ROW_COUNT as u8
-}
-
-fn fresh_of(row: u8) -> Instruction {
-    fresh(row.into()).unwrap()
 }
 
 #[test]
@@ -45,11 +41,11 @@ fn legal_words_with_one_bit_flipped() {
 }
 
 #[test]
-fn fresh_words_with_two_bits_flipped() {
+fn words_on_r0_with_two_bits_flipped() {
     let mut rng = Rng::new(102);
     let mut tally = Tally::new();
     for row in rows() {
-        let word = encode(&fresh_of(row));
+        let word = encode(&on_r0(row));
         for high in 0..64 {
             for low in 0..high {
                 tally.count(compare_word(&mut rng, word ^ 1 << high ^ 1 << low).into());
@@ -83,7 +79,7 @@ fn random_fields_of_every_row() {
         }
         let bits = assigned(&ROWS[row as usize]);
         for _ in 0..500 {
-            let word = encode(&fresh_of(row)) ^ rng.bits() & rng.bits() & bits & !(0x1FF << 48);
+            let word = encode(&on_r0(row)) ^ rng.bits() & rng.bits() & bits & !(0x1FF << 48);
             tally.count(compare_word(&mut rng, word).into());
         }
     }
@@ -109,7 +105,7 @@ fn words_with_one_fault() {
 fn every_stray_bit() {
     let mut rng = Rng::new(110);
     for row in rows() {
-        let word = encode(&fresh_of(row));
+        let word = encode(&on_r0(row));
         let unowned = !assigned(&ROWS[row as usize]);
         let stray: Vec<u32> = (0..64).filter(|bit| unowned >> bit & 1 == 1).collect();
         for &low in &stray {
@@ -148,7 +144,7 @@ fn every_value_of_every_field() {
     let mut rng = Rng::new(107);
     let mut tally = Tally::new();
     for row in rows() {
-        let word = encode(&fresh_of(row));
+        let word = encode(&on_r0(row));
         let mut fields = vec![(40, 8), (48, 9), (57, 2), (59, 5)];
         fields.extend(ROWS[row as usize].secondary.map(|secondary| (secondary.low, secondary.width)));
         fields.extend(MODIFIER_BITS.iter().zip(ROWS[row as usize].modifiers).map(|(low, m)| (*low, m.width)));

@@ -82,6 +82,8 @@ use Rattle.infer.proofs.AskedLaws as inferred
 use Rattle.sweeps.proofs.SweepLaws as sweep-laws
 use Rattle.infer.proofs.LazyMakers as lazy-makers
 use Rattle.infer.proofs.NumberedLaws as infer-numbers
+use Rattle.trial.specs.Trial.{FreshGiven, FreshSources, FreshReadsNone, FreshAccepted}
+use Rattle.trial.proofs.TrialLaws as trial-laws
 use Rattle.differences.specs.declared.answer.Unread.{Unread}
 use Rattle.differences.specs.Records.{contents, HoldsBits}
 use Rattle.differences.specs.Differences.{instruction-of, shared}
@@ -114,7 +116,7 @@ use Rattle.difftext.proofs.write_line as write-line-call
 use Rattle.linetext.proofs.ShownLaws as shown-laws
 use Rattle.listing.proofs.AskedLaws as asked
 use Rattle.listing.proofs.CutLaws as cut
-use Rattle.codes.specs.Promises.{ZeroMeansDone, FewerMeansNone, NoRowMeansNone, ReadThenWritten, WrittenThenRead, FreshThenWritten, TextNeverEmpty, NoNameMeansNone}
+use Rattle.codes.specs.Promises.{ZeroMeansDone, FewerMeansNone, NoRowMeansNone, ReadThenWritten, WrittenThenRead, FreshThenWritten, FreshThenAccepted, TextNeverEmpty, NoNameMeansNone}
 use Rattle.capi.proofs.vsp_read as vsp-read-call
 use Rattle.capi.proofs.vsp_write as vsp-write-call
 use Rattle.capi.proofs.vsp_fresh as vsp-fresh-call
@@ -469,6 +471,20 @@ check-passes-on = passed-on.passes-on
 pub lack-true : LackTrue
 lack-true = word-stray.lack-true
 
+-- ---- Item 6 of paper 02: every row has a fresh record, and each source of it is constant entry 0, so it reads no register; and a container
+-- of a fresh record alone, its flow set to `end`, with an empty entry set and an empty annotation, is accepted, whatever the row
+pub fresh-given : FreshGiven
+fresh-given = trial-laws.fresh-given
+
+pub fresh-sources : FreshSources
+fresh-sources = trial-laws.fresh-sources
+
+pub fresh-reads-none : FreshReadsNone
+fresh-reads-none = trial-laws.fresh-reads-none
+
+pub fresh-accepted : FreshAccepted
+fresh-accepted = trial-laws.fresh-accepted
+
 -- ---- The listing: of a well-formed parcel a line for each word and then the verdict, else the verdict only; no digit is lost
 pub listed : (s : List ℕ) → T (areBytes s) → ListedAsAsked s (listing s)
 listed = asked.listed-as-asked
@@ -488,7 +504,8 @@ shown-from-the-front = show-fronts.shown-from-the-front
 pub left-out-apart : Apart
 left-out-apart = stands-apart.stands-apart
 
--- ---- The C header: 0 means done, 255 no row or no line, forms and words undo one another, and no text is empty
+-- ---- The C header: 0 means done, 255 no row or no line, forms and words undo one another, a fresh form can be written and, alone in a parcel
+-- and with flow `end`, is accepted, and no text is empty
 pub zero-means-done : ZeroMeansDone
 zero-means-done = promises.zero-means-done
 
@@ -506,6 +523,9 @@ written-then-read = promises.written-then-read
 
 pub fresh-then-written : FreshThenWritten
 fresh-then-written = promises.fresh-then-written
+
+pub fresh-then-accepted : FreshThenAccepted
+fresh-then-accepted = promises.fresh-then-accepted
 
 pub text-never-empty : TextNeverEmpty
 text-never-empty = text-promises.text-never-empty

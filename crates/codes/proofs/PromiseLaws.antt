@@ -12,6 +12,7 @@ use lib.ListN.{length, getD}
 use mir.Syntax.{w32}
 use mir.Val.{SFits}
 use borrow.Author.Tests.{eqb-true, ltb-true, not-true, not-false}
+use Rattle.bits.specs.Bytes.{little-bytes}
 use Rattle.bits.specs.Outcomes.{Outcome, gives, refuses, passes, require}
 use Rattle.bits.specs.Signed.{unsigned}
 use Rattle.bits.proofs.OutcomeLaws.{never, then-gives, required, Refusals, on, weaker}
@@ -25,13 +26,17 @@ use Rattle.record.specs.Answers.{refusal}
 use Rattle.record.specs.Lists.{source-list, modifier-list}
 use Rattle.reading.specs.Reader.{read}
 use Rattle.writing.specs.Writer.{heads, write, stored}
-use Rattle.record.specs.Defaults.{fresh, default-instruction}
+use Rattle.record.specs.Defaults.{fresh, default-instruction, ended}
+use Rattle.record.proofs.DefaultLaws.{fresh-made}
 use Rattle.record.proofs.NumberedLaws.{Numbered, OfWriting, fresh-numbers}
 use Rattle.reading.proofs.NumberedLaws.{read-numbers}
-use Rattle.writing.proofs.RoundTrip.{write-numbers}
+use Rattle.writing.proofs.RoundTrip.{write-numbers, stored-word}
 use Rattle.codec.specs.Demand2.{LegalRecord, Offset}
 use Rattle.codec.proofs.Demand2Met.{demand2}
-use Rattle.codec.proofs.Defaulted.{default-legal}
+use Rattle.codec.proofs.LegalRecords.{judged-legal}
+use Rattle.codec.proofs.Defaulted.{default-legal, ended-judged}
+use Rattle.packing.specs.Packing.{container-bytes}
+use Rattle.trial.proofs.TrialLaws.{ended-alone}
 use Rattle.safety.specs.declared.verdict.Finding.{Finding}
 use Rattle.safety.specs.Verdict.{Judgement, verdict-of}
 use Rattle.safety.specs.Demand3.{Demand3At}
@@ -46,7 +51,7 @@ use Rattle.differences.proofs.RefusalLaws.{Early, line-early, list-early}
 use Rattle.infer.proofs.NumberedLaws.{FromTheMaker, infer-numbers}
 use Rattle.codes.specs.Codes.{verdict-code, infer-code, row-code, unread-code, line-code, list-code}
 use Rattle.form.specs.Form.{half, form-of, pick, instruction-of-form, padded, write-form, word-after}
-use Rattle.codes.specs.Promises.{ZeroTells, ZeroMeansDone, FewerMeansNone, NoRowMeansNone, ReadThenWritten, WrittenThenRead, FreshThenWritten}
+use Rattle.codes.specs.Promises.{ZeroTells, ZeroMeansDone, FewerMeansNone, NoRowMeansNone, ReadThenWritten, WrittenThenRead, FreshThenWritten, end-set, FreshThenAccepted}
 use Rattle.form.proofs.OffsetLaws.{few}
 use Rattle.form.proofs.FormLaws.{form-bytes, form-back}
 use Rattle.codes.proofs.AnswerLaws.{through, kept}
@@ -171,18 +176,30 @@ read-then-written bs h i e buffer l =
     let legal = demand2 .written-when i buffer .0 (w .0) .0 in
     (answer-same i legal buffer l ∙ w .0, word-same i legal buffer l ∙ w .1)
 
-given-eq : {x y : Instruction} → _≡_ {A = Outcome Refusal Instruction} (gives x) (gives y) → x ≡ y
-given-eq {x} {y} e = cc
-
 pub fresh-then-written : FreshThenWritten
-unfolding fresh
 fresh-then-written k i e buffer l =
-    let a = then-gives (require (ltb k row-count) (refusal 2 0)) (gives (default-instruction k)) i e in
-    let m = ltb-true k row-count (required _ (refusal 2 0) (a .0)) in
-    let d = default-legal k m in
-    ap (λ (x : Instruction). write-form (form-of x) buffer) (sym (given-eq (a .1)))
+    let m = fresh-made k i e in
+    let d = default-legal k (m .0) in
+    ap (λ (x : Instruction). write-form (form-of x) buffer) (sym (m .1))
     ∙ answer-same (default-instruction k) d buffer l
     ∙ demand2 .back (default-instruction k) d buffer l .0
+
+ending : (i : Instruction) → end-set (form-of i) ≡ form-of (ended i)
+unfolding form-of
+ending i = refl
+
+pub fresh-then-accepted : FreshThenAccepted
+fresh-then-accepted k i e buffer l =
+    let m = fresh-made k i e in
+    let x = ended (default-instruction k) in
+    let d = judged-legal x (ended-judged k (m .0)) in
+    let f : end-set (form-of i) ≡ form-of x = ap (λ (y : Instruction). end-set (form-of y)) (sym (m .1)) ∙ ending (default-instruction k) in
+    let w = word-same x d buffer l ∙ stored-word x (ended-judged k (m .0)) buffer l in (
+      ap (λ (g : List ℕ). write-form g buffer) f ∙ answer-same x d buffer l ∙ demand2 .back x d buffer l .0,
+      ap (λ (g : List ℕ). verdict-code (verdict-of (container-bytes 0 (word-after g buffer) (little-bytes 8 0)))) f
+          ∙ ap (λ (b : List ℕ). verdict-code (verdict-of (container-bytes 0 b (little-bytes 8 0)))) w
+          ∙ ap verdict-code (ended-alone k (m .0)),
+    )
 
 -- the form of an unpadded form's instruction is that form
 

@@ -1,11 +1,12 @@
 -- What the header include/vsp.h promises of several calls together. Where a call gives an instruction i, the form it leaves is form-of i;
 -- where a form is written, the buffer is then word-after. Bytes are numbers below 256.
 use mathlib.Core.Path.{_≡_}
-use mathlib.Core.List.{List}
+use mathlib.Core.List.{List, _∷_, _++_}
 use mathlib.Core.Logic.{_↔_}
 use mathlib.Core.Option.{none, some}
 use Prim.Native.Nat.{ℕ, _%_, _^_, _<_, _≤_}
-use lib.ListN.{length, getD}
+use lib.ListN.{length, getD, take, drop}
+use Rattle.bits.specs.Bytes.{little-bytes}
 use Rattle.bits.specs.Outcomes.{Outcome, gives, passes}
 use Rattle.rows.specs.Rows.{row-count}
 use Rattle.rows.specs.Names.{name-of}
@@ -15,6 +16,7 @@ use Rattle.opcoderows.specs.Opcodes.{row-with}
 use Rattle.codec.specs.Demand2.{Given}
 use Rattle.reading.specs.Reader.{read}
 use Rattle.record.specs.Defaults.{fresh}
+use Rattle.packing.specs.Packing.{container-bytes}
 use Rattle.safety.specs.Verdict.{verdict-of}
 use Rattle.infer.specs.Inference.{infer-outcome}
 use Rattle.differences.specs.declared.line.Line.{Line}
@@ -69,6 +71,17 @@ WrittenThenRead =
 abbrev pub FreshThenWritten : Type 0
 FreshThenWritten =
     (row : ℕ) (i : Instruction) → fresh row ≡ gives i → (buffer : List ℕ) → length buffer ≡ 8 → write-form (form-of i) buffer ≡ passes
+
+-- vsp_fresh: "It reads no register: with its flow, byte 2, set to 15 (end), its word alone, with an empty entry set and an empty note, is a
+-- parcel that vsp_check accepts."
+abbrev pub end-set : List ℕ → List ℕ
+end-set f = take 2 f ++ (15 ∷ drop 3 f)
+
+abbrev pub FreshThenAccepted : Type 0
+FreshThenAccepted =
+    (row : ℕ) (i : Instruction) → fresh row ≡ gives i → (buffer : List ℕ) → length buffer ≡ 8
+    → (write-form (end-set (form-of i)) buffer ≡ passes)
+    × (verdict-code (verdict-of (container-bytes 0 (word-after (end-set (form-of i)) buffer) (little-bytes 8 0))) ≡ 0)
 
 -- vsp_text: "the length of the text without the 0, which is never 0"
 abbrev pub TextNeverEmpty : Type 0

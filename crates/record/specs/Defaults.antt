@@ -1,5 +1,5 @@
--- The default instruction of a row is the paper's fresh record (01, The 77 rows, last part): page and flow are 0, a destination is all of
--- r0, and each source and modifier has the default of its kind.
+-- The default instruction of a row is the paper's fresh record (01, The 77 rows, last part; 02, Item 6): page and flow are 0, a destination
+-- is all of r0, and each source and modifier has the default of its kind, 0 where the row has none there.
 use mathlib.Core.List.{map}
 use Prim.Native.Nat.{ℕ}
 use lib.Dec.{ltb}
@@ -28,6 +28,20 @@ default-instruction k =
       sources = sources-of (map (default-at k) source-places);
       modifiers = modifiers-of (map (default-at k) modifier-places);
       offset = pos 0;
+    }
+
+-- the same instruction with flow `end` (01, The frame), which the caller sets where nothing is to follow (02, Item 6)
+abbrev pub ended : Instruction → Instruction
+ended i =
+    record {
+      row = i .row;
+      page = i .page;
+      flow = 15;
+      register = i .register;
+      «half_mask» = i .«half_mask»;
+      sources = i .sources;
+      modifiers = i .modifiers;
+      offset = i .offset;
     }
 
 -- 2 for a row number past the table's end

@@ -1,2 +1,3 @@
 pub mod Modifiers
 pub mod Counts
+pub mod Sources

@@ -83,7 +83,8 @@ flag = modifier 1 (0 to 1 ∷ []) 0
 abbrev pub two-bits : About
 two-bits = modifier 2 (0 to 3 ∷ []) 0
 
--- the defaults are 0, but 2 for H and W16, 1 for mux, and 3, the whole register, for the half mask (01, The 77 rows)
+-- the defaults are 0, but 2 for H and W16, 1 for mux, and 3, the whole register, for the half mask (01, The 77 rows); that of a source is
+-- constant entry 0, which reads no register (02, Item 6)
 abbrev pub about : Kind → About
 about absent = record { width = 0; legal = only 0 ∷ []; default = 0 }
 about negate = flag
@@ -115,8 +116,8 @@ about mux = modifier 2 (0 to 3 ∷ []) 1
 about combine = modifier 3 (0 to 4 ∷ []) 0
 -- the NaN mode ends with 2
 about nan-mode = modifier 2 (0 to 2 ∷ []) 0
--- which bytes are legal is said by their meaning (Sources)
-about source = free 8
+-- which bytes are legal is said by their meaning (Sources); from C0 up they are constant entries
+about source = record { width = 8; legal = []; default = 0xC0 }
 about offset = free 27
 about (second n) = free n
 about register = free 6

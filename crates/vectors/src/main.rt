@@ -118,7 +118,7 @@ fn writes_word(label: &[u8], i: Instruction) {
     }
 }
 
-// A row's default, and BRANCHZ's with another offset.
+// A row's default, and BRANCHZ's on r0 with another offset.
 fn fresh(row: usize) -> Instruction {
     let a = Instruction::fresh(row);
     match a {
@@ -147,6 +147,7 @@ fn fresh_zero() -> Instruction {
 
 fn branch(offset: i32) -> Instruction {
     let mut i = fresh(1);
+    i.sources.s0 = 0;
     i.offset = offset;
     i
 }

@@ -1,10 +1,15 @@
 use crate::Rng;
-use reference::{Instruction, MODIFIER_BITS, MODIFIERS, Modifier, ROW_COUNT, ROWS, Refusal, Row, read, write};
+use reference::{Instruction, MODIFIER_BITS, MODIFIERS, Modifier, ROW_COUNT, ROWS, Refusal, Row, fresh, read, write};
 
 /// The row of BRANCHZ.
 pub const BRANCH: u8 = 1;
 
 const RESERVED_FLOWS: [u8; 3] = [11, 12, 14];
+
+/// The fresh instruction of a row with r0 as each source.
+pub fn on_r0(row: u8) -> Instruction {
+    Instruction { sources: [0; 4], ..fresh(row.into()).unwrap() }
+}
 
 /// A legal instruction of a row, every field random.
 pub fn instruction(rng: &mut Rng, number: u8) -> Instruction {

@@ -10,7 +10,7 @@ mod program;
 mod rng;
 mod tiny;
 
-pub use instruction::{BRANCH, assigned, encode, instruction, misfit, pack, refused_word, source};
+pub use instruction::{BRANCH, assigned, encode, instruction, misfit, on_r0, pack, refused_word, source};
 pub use mesa::mesa;
 pub use parcel::{parcel, with_word};
 pub use program::{Program, Shape};

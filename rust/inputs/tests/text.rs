@@ -1,14 +1,14 @@
 //! The reference's texts: against Mesa's disassembler, by hand, and against the reader.
 
-use inputs::{Rng, instruction, mesa};
-use reference::{Instruction, MODIFIER_BITS, ROW_COUNT, ROWS, fresh, read, text};
+use inputs::{Rng, instruction, mesa, on_r0};
+use reference::{Instruction, MODIFIER_BITS, ROW_COUNT, ROWS, read, text};
 
 fn row(name: &str) -> u8 {
     ROWS.iter().position(|row| row.name == name).unwrap() as u8
 }
 
-fn fresh_of(name: &str) -> Instruction {
-    fresh(row(name).into()).unwrap()
+fn plain(name: &str) -> Instruction {
+    on_r0(row(name))
 }
 
 /// The instruction with another value of the modifier at a lowest bit.
@@ -81,14 +81,14 @@ fn modifiers_without_a_name() {
         ("ICMP_OR.u32", 32, 6, "ICMP_OR.u32.gtlt.i1 r0, r0, r0, r0"),
     ];
     for (name, low, value, expected) in examples {
-        assert_eq!(text(&with(fresh_of(name), low, value)), expected);
+        assert_eq!(text(&with(plain(name), low, value)), expected);
     }
 }
 
 /// Everything but modifiers that isn't legal, or too large for any word.
 #[test]
 fn other_numbers_without_a_name() {
-    let (nop, mov, branch) = (fresh_of("NOP"), fresh_of("MOV.i32"), fresh_of("BRANCHZ"));
+    let (nop, mov, branch) = (plain("NOP"), plain("MOV.i32"), plain("BRANCHZ"));
     let all = Instruction { sources: [255; 4], modifiers: [255; 14], register: 255, page: 255, offset: -1, ..nop };
     let examples = [
         (Instruction { row: 77, ..all }, "?"),
@@ -119,7 +119,7 @@ fn other_numbers_without_a_name() {
 fn sources_without_a_name_are_refused() {
     for page in 0..4 {
         for byte in 0..=255 {
-            let text = text(&Instruction { page, sources: [byte, 0, 0, 0], ..fresh_of("MOV.i32") });
+            let text = text(&Instruction { page, sources: [byte, 0, 0, 0], ..plain("MOV.i32") });
             let word = 0x0091_C000_0000_0000 | u64::from(page) << 57 | u64::from(byte);
             assert_eq!(text.contains('?'), read(&word.to_le_bytes()).is_err(), "byte {byte} on page {page}");
         }
@@ -131,7 +131,7 @@ fn sources_without_a_name_are_refused() {
 #[test]
 fn modifiers_without_a_name_are_illegal() {
     for (number, row) in ROWS.iter().enumerate() {
-        let plain = fresh(number as u64).unwrap();
+        let plain = on_r0(number as u8);
         for (k, modifier) in row.modifiers.iter().enumerate() {
             for value in 0..=255 {
                 let mut other = plain;

@@ -6,6 +6,8 @@ use crate::rows::{MODIFIER_BITS, MODIFIERS, ROWS};
 
 /// Bit f is 1 where flow f is reserved.
 const RESERVED_FLOWS: u32 = 1 << 11 | 1 << 12 | 1 << 14;
+/// The source byte for constant entry 0, which reads as 0.
+const ENTRY_0: u8 = 192;
 /// The first source byte for a word of a special constant: 192 + 32.
 const FIRST_SPECIAL: u8 = 224;
 /// By page, bit i is 1 where value i is not reserved. Its low word is entry 32 + 2i, its high word entry 33 + 2i.
@@ -60,13 +62,16 @@ pub fn write(instruction: &Instruction, buffer: &mut [u8]) -> Result<(), Refusal
     Ok(())
 }
 
-/// The fresh instruction of a row.
+/// The fresh instruction of a row: each of its sources is constant entry 0.
 pub fn fresh(row: u64) -> Result<Instruction, Refusal> {
     let number = u8::try_from(row).map_err(|_| Refusal::NoRow)?;
     let row = ROWS.get(number as usize).ok_or(Refusal::NoRow)?;
+    let mut sources = [0; 4];
+    sources[..row.sources].fill(ENTRY_0);
     Ok(Instruction {
         row: number,
         half_mask: if row.destination { 3 } else { 0 },
+        sources,
         modifiers: row.modifiers.map(|modifier| modifier.fresh),
         ..Instruction::default()
     })

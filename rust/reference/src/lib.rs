@@ -1,6 +1,7 @@
 //! Paper 01 in plain Rust: the word reader and writer, the parcel, the check; and of paper 02
-//! the maker of notes, the rows of an opcode and the comparison of two parcels; and the text of an
-//! instruction, with paper 002's names in the syntax of Mesa's disassembler.
+//! the maker of notes, special constants as pairs, the rows of an opcode, the comparison of two
+//! parcels, the stray bit and the safer fresh record; and the text of an instruction, with paper
+//! 002's names in the syntax of Mesa's disassembler.
 //!
 //! Written from the papers alone, with tables of its own, so that it can stand beside the
 //! verified library in differential tests and as a baseline for its speed. Nothing here

@@ -181,10 +181,15 @@ fn fresh_instructions() {
     for row in [77, 78, 255, 256, 257, 1 << 32, (1 << 32) + 3, u64::MAX] {
         assert_eq!(fresh(row), Err(Refusal::NoRow), "{row}");
     }
-    let halves = with(with(with(plain("MUX.v2i16", 0, [0; 4]), 24, 2), 26, 2), 28, 2);
+    let halves = with(with(with(plain("MUX.v2i16", 0, [0xC0, 0xC0, 0xC0, 0]), 24, 2), 26, 2), 28, 2);
     assert_eq!(fresh(row("MUX.v2i16").into()), Ok(with(halves, 32, 1)));
-    let compare = with(with(plain("ICMP_AND.v2u16", 0, [0; 4]), 26, 2), 36, 2);
+    let compare = with(with(plain("ICMP_AND.v2u16", 0, [0xC0, 0xC0, 0xC0, 0]), 26, 2), 36, 2);
     assert_eq!(fresh(row("ICMP_AND.v2u16").into()), Ok(compare));
+    for (name, sources) in [("MOV.i32", [0xC0, 0, 0, 0]), ("FADD.f32", [0xC0, 0xC0, 0, 0]), ("CSEL.f32", [0xC0; 4])] {
+        assert_eq!(fresh(row(name).into()), Ok(plain(name, 0, sources)));
+    }
+    let branch = Instruction { row: row("BRANCHZ"), sources: [0xC0, 0, 0, 0], ..Instruction::default() };
+    assert_eq!(fresh(row("BRANCHZ").into()), Ok(branch));
     assert_eq!(fresh(0), Ok(Instruction::default()));
 }
 
