@@ -1,7 +1,8 @@
 /*
  * Compares two parcels through the C interface: prints a line for each line of the list of
  * what differs, with the index, the field and both contents, row numbers in decimal and all
- * else in hexadecimal. With a number k it prints line k alone, counted from 0, if there is one.
+ * else in hexadecimal; a set of halves of registers is named low or high. With a number k it
+ * prints line k alone, counted from 0, if there is one.
  * Exit status 0 where there is nothing to print, 1 where there is, 2 where a parcel is refused,
  * a file can't be read or standard output can't be written.
  *
@@ -17,7 +18,7 @@
 #include "vsp.h"
 
 /* The longest parcel, and one byte more to tell a file that is too long. */
-#define ROOM (16 + 16 * 2048 + 1)
+#define ROOM (24 + 24 * 2048 + 1)
 
 struct parcel {
     const char *name;
@@ -57,11 +58,15 @@ static int parse(const char *text, size_t *k)
 static void print_line(const uint64_t *line)
 {
     static const char *const names[] = {"row",      "page",  "flow",    "destination", "source",
-                                        "modifier", "added", "removed", "entry set",   "note"};
-    unsigned what = VSP_DIFF_WHAT(line[0]);
+                                        "modifier", "added", "removed", "entry set",   "note",
+                                        "version"};
+    static const char *const halves[] = {"", " low", " high"};
+    unsigned what = VSP_DIFF_WHAT(line[0]), which = VSP_DIFF_WHICH(line[0]);
     printf("%04u %s", VSP_DIFF_INDEX(line[0]), names[what]);
     if (what == VSP_DIFF_SOURCE || what == VSP_DIFF_MODIFIER)
-        printf(" %u", VSP_DIFF_WHICH(line[0]));
+        printf(" %u", which);
+    if (what == VSP_DIFF_ENTRY || what == VSP_DIFF_NOTE)
+        printf("%s", halves[which]);
     if (what == VSP_DIFF_ROW)
         printf(": %" PRIu64 " %" PRIu64 "\n", line[1], line[2]);
     else

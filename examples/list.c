@@ -1,7 +1,7 @@
 /*
  * Lists a parcel through the C interface: for each word its index, its digits and the text of
- * its instruction or its refusal, then the verdict. Of a parcel that doesn't open, the verdict
- * only.
+ * its instruction or its refusal, then the verdict, with the half of the register at fault. Of a
+ * parcel that doesn't open, the verdict only.
  * Exit status 0 where it is accepted, 1 where it is refused, 2 where the file can't be read
  * or standard output can't be written.
  *
@@ -14,9 +14,8 @@
 
 #include "vsp.h"
 
-#define HEADER 16
 /* The longest parcel, and one byte more to tell a file that is too long. */
-#define LONGEST (HEADER + 16 * 2048)
+#define LONGEST (24 + 24 * 2048)
 static uint8_t parcel[LONGEST + 1];
 
 /* The length of the file's start, or -1. */
@@ -55,11 +54,13 @@ static int opens(uint64_t verdict)
 
 static void print_verdict(uint64_t verdict)
 {
+    static const char *const halves[] = {"", " low", " high"};
     if (verdict == 0)
         printf("ACCEPTED\n");
     else
-        printf("REFUSED %u place %u index %u register %u\n", VSP_NUMBER(verdict), VSP_PLACE(verdict),
-               VSP_INDEX(verdict), VSP_REGISTER_OF(verdict));
+        printf("REFUSED %u place %u index %u register %u%s\n", VSP_NUMBER(verdict),
+               VSP_PLACE(verdict), VSP_INDEX(verdict), VSP_REGISTER_OF(verdict),
+               halves[VSP_HALF(verdict)]);
 }
 
 /* The listing; the verdict of vsp_check. */
@@ -67,9 +68,11 @@ static uint64_t list_parcel(size_t length)
 {
     uint64_t verdict = vsp_check(parcel, length);
     if (opens(verdict)) {
+        /* Version 2 has a longer header. */
+        const uint8_t *words = parcel + (parcel[3] == 2 ? 24 : 16);
         unsigned instructions = parcel[6] + 256u * parcel[7];
         for (unsigned index = 0; index < instructions; index++)
-            list_word(index, parcel + HEADER + VSP_WORD * index);
+            list_word(index, words + VSP_WORD * index);
     }
     print_verdict(verdict);
     return verdict;

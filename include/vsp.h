@@ -6,6 +6,22 @@
  * says are filled when the instruction is reached). A register is held from when it is
  * filled, by the entry set or by a write of all of it, until it is released.
  *
+ * In a parcel of version 2 each half of a register is held or not by itself: entry set and notes
+ * name low halves and high halves, and a write fills the halves that it writes. To read a
+ * register takes both halves, whatever the swizzle, and to release it releases both. In version
+ * 1 a set names whole registers, and a write of one half fills nothing.
+ *
+ *    a parcel             version 1        version 2
+ *    mark, VSP            bytes 0 to 2     bytes 0 to 2
+ *    version              bytes 3 and 4    bytes 3 and 4
+ *    0                    byte 5           byte 5
+ *    count, 1 to 2048     bytes 6 and 7    bytes 6 and 7
+ *    entry set            bytes 8 to 15    bytes 8 to 15 low halves, 16 to 23 high halves
+ *    then all words       8 bytes each     8 bytes each
+ *    then all notes       8 bytes each     16 bytes each, 8 for low halves, 8 for high halves
+ *    length               16 + 16 count    24 + 24 count
+ * All numbers are little-endian; bit r of a set is for register r.
+ *
  * Every function is total: it returns for every input, allocates nothing, keeps no state
  * and touches no memory but the buffers it is given; calls from several threads are fine. A
  * pointer that comes with a length must be good for that many bytes, a form for 32; none is
@@ -26,17 +42,20 @@
  *    9  a form with a value that its row has no room for in the word, with an offset beyond
  *       its limits, with other than 0 where its row has nothing, or with padding other than 0
  *   10  the mark isn't VSP
- *   11  the version isn't 1
- *   12  cut off within the first 16 bytes; or the count (1 to 2048) or the length (16 bytes,
- *       and 16 for each instruction) is wrong; from vsp_infer: the words aren't 8 bytes for
- *       each of 1 to 2048 instructions, or the room for notes isn't as long as the words
+ *   11  the version is neither 1 nor 2; from vsp_infer: the version that it is told is neither
+ *   12  cut off within the first 16 bytes; or the count (1 to 2048) or the length (16 bytes, and
+ *       16 for each instruction; in version 2 24 and 24) is wrong; from vsp_infer: the words
+ *       aren't 8 bytes for each of 1 to 2048 instructions, or the room for notes isn't 8 bytes
+ *       for each, in version 2 16
  *   13  byte 5 isn't 0
- *   20  an instruction reads a register that its note doesn't name
+ *   20  an instruction reads a register that its note doesn't name, in version 2 one of which it
+ *       doesn't name both halves
  *   21  an instruction can go on to a place outside the program
- *   22  an instruction can go on to one whose note names a register that, by its own
- *       note, it doesn't leave held
- *   23  the first note names a register that the entry set doesn't have
- *   24  with these words and this entry set no notes at all would be accepted
+ *   22  an instruction can go on to one whose note names a register, in version 2 a half of one,
+ *       that, by its own note, it doesn't leave held
+ *   23  the first note names a register, in version 2 a half of one, that the entry set doesn't
+ *       have
+ *   24  with these words and this entry set no notes at all would be accepted in this version
  *
  * The form, 32 bytes, of a decoded instruction:
  *    0       row, 0 to 76
@@ -99,7 +118,7 @@ extern "C" {
 
 /* The numbers of a line of differences; no list has more lines than this; their numbers. */
 #define VSP_DIFF_LINE 3
-#define VSP_DIFF_LINES 47105
+#define VSP_DIFF_LINES 49155
 #define VSP_DIFF_NUMBERS (VSP_DIFF_LINE * VSP_DIFF_LINES)
 
 /* The bytes of a form. */
@@ -125,12 +144,20 @@ enum {
     VSP_DIFF_ADDED = 6,
     VSP_DIFF_REMOVED = 7,
     VSP_DIFF_ENTRY = 8,
-    VSP_DIFF_NOTE = 9
+    VSP_DIFF_NOTE = 9,
+    VSP_DIFF_VERSION = 10
+};
+
+/* A half of a register, in a verdict and in a line of differences that tells of a set. */
+enum {
+    VSP_NO_HALF = 0,
+    VSP_LOW = 1,
+    VSP_HIGH = 2
 };
 
 /*
- * The parts of an answer, but for vsp_row_of, which gives a row; place, index and register
- * mean something only where the number isn't 0 (nor the answer VSP_FEWER), and the last two
+ * The parts of an answer, but for vsp_row_of, which gives a row; place, index, register and half
+ * mean something only where the number isn't 0 (nor the answer VSP_FEWER), and the last three
  * aren't for vsp_read, vsp_write and vsp_fresh. vsp_text and vsp_name give a length, which has
  * none of these parts.
  */
@@ -138,6 +165,8 @@ enum {
 #define VSP_PLACE(answer) ((unsigned)((answer) >> 8 & 0xFF))
 #define VSP_INDEX(verdict) ((unsigned)((uint64_t)(verdict) >> 16 & 0xFFFF))
 #define VSP_REGISTER_OF(verdict) ((unsigned)((uint64_t)(verdict) >> 32 & 0xFF))
+/* VSP_LOW or VSP_HIGH where the register is below 64, else VSP_NO_HALF. */
+#define VSP_HALF(verdict) ((unsigned)((uint64_t)(verdict) >> 40 & 3))
 /* For vsp_infer, where the number is 0. */
 #define VSP_SWEEPS(answer) ((unsigned)((uint64_t)(answer) >> 16 & 0xFFFF))
 /* For vsp_diff_lines, where the number is 0. */
@@ -147,7 +176,7 @@ enum {
 
 /*
  * The parts of the first number of a line: what it tells of; for a source its index, for a
- * modifier its lowest bit; the index of the instruction.
+ * modifier its lowest bit, for a set its half; the index of the instruction.
  */
 #define VSP_DIFF_WHAT(number) ((unsigned)((number) & 0xFF))
 #define VSP_DIFF_WHICH(number) ((unsigned)((number) >> 8 & 0xFF))
@@ -158,48 +187,54 @@ enum {
  *
  * Gives 0 where the parcel is accepted: then, whichever way the program goes, it stays within
  * its words, and each register that an instruction reads is held: the entry set has it or an
- * earlier instruction has written all of it, and none has released it since.
+ * earlier instruction has written all of it, and none has released it since. In version 2 both
+ * its halves are held: the entry set has the half or an earlier instruction has written it, and
+ * none has released the register since.
  *
- * Taken on trust is the entry set, bytes 8 to 15 of the parcel, little-endian, bit r for
- * register r. It is the parcel's own claim: vsp_check doesn't know what the display fills
+ * Taken on trust is the entry set: in version 1 bytes 8 to 15 of the parcel, little-endian, bit
+ * r for register r; in version 2 bytes 8 to 15 for the low halves and bytes 16 to 23 for the
+ * high halves. It is the parcel's own claim: vsp_check doesn't know what the display fills
  * before it starts the program. Compare the two. The notes are not taken on trust.
  *
  * 0 doesn't mean that the program computes the right thing, nor that it is the approved one.
  *
- * Otherwise number + 2^8 place + 2^16 index + 2^32 register: the instruction at fault (0
- * where the parcel doesn't open; for 21 and 22 the one that goes on) and the lowest register
- * at fault (64 where none is). The first refusal in this order: 12 for the first 16 bytes,
- * 10, 11, 13, 12 for count and length; 2 to 7 for the lowest word that isn't legal; 23; then
- * instruction by instruction 20, and 21 and 22 for the next instruction, then both for the
- * one that is branched to.
+ * Otherwise number + 2^8 place + 2^16 index + 2^32 register + 2^40 half: the instruction at
+ * fault (0 where the parcel doesn't open; for 21 and 22 the one that goes on), the lowest
+ * register of which a half is at fault (64 where none is) and that half, the low one where both
+ * are. In version 1 the half is always the low one; with register 64 it is VSP_NO_HALF. The
+ * first refusal in this order: 12 for the first 16 bytes, 10, 11, 13, 12 for count and length;
+ * 2 to 7 for the lowest word that isn't legal; 23; then instruction by instruction 20, and 21
+ * and 22 for the next instruction, then both for the one that is branched to.
  */
 uint64_t vsp_check(const uint8_t *parcel, size_t length);
 
 /*
- * Makes notes for words that come without any. Words and notes are as in a parcel, 8 bytes
- * for each instruction, little-endian, so both have the same length. Uses some 120 KB of
- * stack.
+ * Makes notes for words that come without any, for a parcel of version 1 or 2. Words and notes
+ * are as in a parcel, little-endian: for each instruction 8 bytes of words, and 8 of notes in
+ * version 1, 16 in version 2. Uses some 180 KB of stack.
  *
- * The entry set, bit r for register r, is the caller's to know: the words don't say what the
- * display fills before it starts the program, and notes for a set that it doesn't fill are
- * worth nothing.
+ * The entry set is the caller's to know: the words don't say what the display fills before it
+ * starts the program, and notes for a set that it doesn't fill are worth nothing. In version 2
+ * it is two sets, of low halves and of high halves, bit r for register r. In version 1 the low
+ * one is the entry set, bit r for all of register r, and the high one plays no part.
  *
  * Where it proposes notes it fills the buffer with them and gives 2^16 times the number of
- * sweeps, so that the number is 0. Then vsp_check accepts the parcel of this entry set, these
- * words and these notes. Each note names every register that the same note names in any notes
- * that vsp_check would accept for these words and this entry set. Where every instruction lies
- * on some way through the program, it names just the registers that are held whichever way the
- * program comes to its instruction. A sweep narrows each note to what every instruction that
- * can go on to its own leaves held; the last one, which changes no note, counts too, so the
- * number of sweeps is never 0.
+ * sweeps, so that the number is 0. Then vsp_check accepts the parcel of this version, this entry
+ * set, these words and these notes. Each note names every register (in version 2 every half)
+ * that the same note names in any notes that vsp_check would accept for this version, these
+ * words and this entry set. Where every instruction lies on some way through the program, it
+ * names just the registers (halves) that are held whichever way the program comes to its
+ * instruction. A sweep narrows each note to what every instruction that can go on to its own
+ * leaves held, low and high halves in the same sweep; the last one, which changes no note, counts
+ * too, so the number of sweeps is never 0.
  *
  * Otherwise number + 2^8 place + 2^16 index + 2^32 register, and leaves the buffer as it was.
- * The first refusal in this order: 12 for either length; 2 to 7 for the lowest word that isn't
- * legal, with its index; 24, exactly where vsp_check would accept no notes at all. The index
- * is 0 for 12 and 24, the register always 64.
+ * The first refusal in this order: 11 for the version; 12 for either length; 2 to 7 for the
+ * lowest word that isn't legal, with its index; 24, exactly where vsp_check would accept no notes
+ * at all. The index is 0 for 11, 12 and 24, the register always 64, without a half.
  */
-uint64_t vsp_infer(const uint8_t *words, size_t length, uint64_t entry, uint8_t *notes,
-                   size_t notes_length);
+uint64_t vsp_infer(uint64_t version, const uint8_t *words, size_t length, uint64_t entry_low,
+                   uint64_t entry_high, uint8_t *notes, size_t notes_length);
 
 /*
  * Reads a word of 8 little-endian bytes.
@@ -276,12 +311,17 @@ uint32_t vsp_row_of(uint64_t opcode, uint64_t k);
  * Gives line k, counted from 0, of the list of what differs between two parcels, the approved
  * one first, for any k.
  *
- * The list. For each instruction that both parcels have, in order, a line for each field that
- * differs, in the order row, page, flow, destination, sources 0 to 3, modifiers by their lowest
- * bit. Then a line for each instruction that only the longer parcel has. Then one for the entry
- * sets if they differ. Then one for each instruction that both have whose notes differ. Nothing
- * else, so notes of instructions that only one has aren't told. The list is empty exactly where
- * the two parcels have the same bytes.
+ * The list. First a line for the versions if they differ. Then for each instruction that both
+ * parcels have, in order, a line for each field that differs, in the order row, page, flow,
+ * destination, sources 0 to 3, modifiers by their lowest bit. Then a line for each instruction
+ * that only the longer parcel has. Then the entry sets if they differ. Then, for each
+ * instruction that both have, the notes if they differ. Nothing else, so notes of instructions
+ * that only one has aren't told. The list is empty exactly where the two parcels have the same
+ * bytes.
+ *
+ * Entry sets and notes have one line where both parcels are of version 1. Otherwise low halves
+ * and high halves have a line each, the low ones first, where they differ; a set of a version 1
+ * parcel then stands for both.
  *
  * A line is three numbers: what + 2^8 which + 2^16 index, the content in the first parcel, the
  * content in the second.
@@ -295,11 +335,13 @@ uint32_t vsp_row_of(uint64_t opcode, uint64_t k);
  *                                    is the modifier at bit 8, as its raw 27 bits
  *    6  added          0             0, and the word that only the second parcel has
  *    7  removed        0             the word that only the first parcel has, and 0
- *    8  entry set      0             the sets, bit r for register r; the index is 0
- *    9  note           0             the notes, bit r for register r
- * A content is 0 where the row has no such field. Where the rows differ, modifiers with the
- * same lowest bit are one field, whatever each row calls it, and there is no line where their
- * contents are the same.
+ *    8  entry set      half          the sets, bit r for register r; the index is 0
+ *    9  note           half          the notes, bit r for register r
+ *   10  version        0             the versions; the index is 0
+ * The half is 0 where both parcels are of version 1, else 1 for low halves and 2 for high
+ * halves. A content is 0 where the row has no such field. Where the rows differ, modifiers with
+ * the same lowest bit are one field, whatever each row calls it, and there is no line where
+ * their contents are the same.
  *
  * Gives 0 and the line's three numbers, or VSP_FEWER where the list has no line k. Where a
  * parcel doesn't open or one of its words isn't legal it gives number + 2^8 place + 2^16 index
@@ -321,8 +363,8 @@ uint64_t vsp_diff_line(const uint8_t *first, size_t first_length, const uint8_t 
  * Gives 2^16 times how many lines there are, so that the number is 0, and puts the lines, three
  * numbers each, at the front of the buffer, whose other numbers stay. Where a parcel is refused
  * it gives what vsp_diff_line gives and leaves the whole buffer as it was. The buffer has room
- * for any list, some 1.1 MB: 23 lines for each of 2048 instructions, and one for the entry
- * sets.
+ * for any list, some 1.2 MB: 24 lines for each of 2048 instructions, two for the entry sets and
+ * one for the versions.
  */
 uint64_t vsp_diff_lines(const uint8_t *first, size_t first_length, const uint8_t *second,
                         size_t second_length, uint64_t lines[VSP_DIFF_NUMBERS]);

@@ -11,8 +11,10 @@ The exit status is 0 where all is well, 1 where a source is wrong, a made file d
 
 A source is a text in UTF-8. It has a line for each instruction, 1 to 2048 of them, and at most one line with the entry set, the
 registers that the parcel says are filled before the program starts (without that line, none). A line `words` asks for FILE.words as
-well: the words alone, from which ./vsp notes makes a parcel.
+well: the words alone, from which ./vsp notes makes a parcel. A line with the version of the parcel, 1 or 2, can stand anywhere (without
+it, 1). In version 2 the entry set and the notes can name halves of registers, as r4.low and r4.high.
 
+    version 1
     entry r0 r1
     words
     FADD.f32 r2, r0, u3       | r0 r1
@@ -49,7 +51,7 @@ import sys
 
 here = os.path.dirname(os.path.abspath(__file__))
 sys.path.insert(0, os.path.join(here, '..', 'tests'))
-from paper01 import ROWS, parcel, word
+from paper01 import ROWS, members_of, parcel, word
 
 USAGE = 'usage: make.py [--check] [FILE.vsa ..], or make.py --help'
 MOST = 2048
@@ -59,6 +61,9 @@ MODIFIER = re.compile(r'm([0-9]+)=([0-9]+)')
 # Of each kind of operand: the first byte, the highest number, and what it is called.
 KINDS = {'r': (0, 63, 'register'), 'u': (128, 255, 'uniform'), 'c': (192, 63, 'constant')}
 HALVES = {'.low': 1, '.high': 2, '': 3}
+# By version: what can follow a register in an entry set and in a note, each with its letter for a half; and what stands there.
+ENDINGS = {1: {'': ''}, 2: {'': '', '.low': 'L', '.high': 'H'}}
+NAMED = {1: 'whole registers', 2: 'registers and their halves'}
 
 
 class Wrong(Exception):
@@ -216,24 +221,41 @@ def instruction(text, index, count):
 # ---- a source
 
 
-def registers(text):
-    """The registers of an entry line or of a note."""
+def registers(text, version):
+    """What an entry line or a note names, as for members_of."""
     found = []
     for piece in pieces(text):
         kind, register, ending = operand(piece)
-        if kind != 'r' or ending:
-            raise Wrong(f'{piece!a} stands where only whole registers do.')
-        if register in found:
-            raise Wrong(f'r{register} is named twice.')
-        found.append(register)
+        if kind != 'r' or ending not in ENDINGS[version]:
+            raise Wrong(f'{piece!a} stands where only {NAMED[version]} do.')
+        named = f'{register}{ENDINGS[version][ending]}'
+        if members_of([named]) & members_of(found):
+            raise Wrong(f'r{register}{ending} is named twice.')
+        found.append(named)
     return found
 
 
-def entry_line(line, entries):
-    """The registers that are filled before the program starts; `entries` such lines there are with this one."""
+def version_in(lines):
+    """The version that a line names, 1 where none does."""
+    named = [line for _, line in lines if line_kind(line) == 'version']
+    return 1 if not named or pieces(named[0])[1:] == ['1'] else 2
+
+
+def version_line(line, asked):
+    """That the version is named; `asked` says whether a line before does so."""
+    if asked:
+        raise Wrong('A line before this one names the version.')
+    named = line[len('version'):].strip(' ')
+    if named not in ('1', '2'):
+        raise Wrong(f'The version is 1 or 2, and {named!a} is neither.')
+    return True
+
+
+def entry_line(line, version, entries):
+    """What is filled before the program starts; `entries` such lines there are with this one."""
     if entries > 1:
         raise Wrong('A line before this one names the registers that are filled before the program starts.')
-    return registers(line[len('entry'):])
+    return registers(line[len('entry'):], version)
 
 
 def words_line(line, asked):
@@ -245,20 +267,20 @@ def words_line(line, asked):
     return True
 
 
-def instruction_line(line, index, count):
+def instruction_line(line, version, index, count):
     """The word and the note."""
     if index == MOST:
         raise Wrong(f'This is instruction {MOST + 1}, and a parcel has {MOST} at most.')
     code, bar, note = line.partition('|')
     if not bar:
         raise Wrong('The bar is missing: it stands before the note, even an empty one.')
-    return instruction(code.strip(' '), index, count), registers(note)
+    return instruction(code.strip(' '), index, count), registers(note, version)
 
 
 def line_kind(line):
-    """What a line is about: the entry set, the words alone, or an instruction."""
+    """What a line is about: the version, the entry set, the words alone, or an instruction."""
     first = line.partition(' ')[0]
-    return first if first in ('entry', 'words') else 'instruction'
+    return first if first in ('version', 'entry', 'words') else 'instruction'
 
 
 def lines_of(text):
@@ -270,26 +292,29 @@ def lines_of(text):
 def assemble(path, text):
     """The bytes to make, by the ending of the file: the parcel, and the words alone where they are asked for."""
     lines = lines_of(text)
-    count = sum(line_kind(line) == 'instruction' for _, line in lines)
-    entries, index, entry, alone, made, errors = 0, 0, [], False, [], []
+    count, version = sum(line_kind(line) == 'instruction' for _, line in lines), version_in(lines)
+    entries, index, entry, named, alone, made, errors = 0, 0, [], False, False, [], []
     for k, line in lines:
         try:
-            if line_kind(line) == 'entry':
+            if line_kind(line) == 'version':
+                named = version_line(line, named)
+            elif line_kind(line) == 'entry':
                 entries += 1
-                entry = entry_line(line, entries)
+                entry = entry_line(line, version, entries)
             elif line_kind(line) == 'words':
                 alone = words_line(line, alone)
             else:
                 index += 1
-                made.append(instruction_line(line, index - 1, count))
+                made.append(instruction_line(line, version, index - 1, count))
         except Wrong as wrong:
             errors.append(f'{path}:{k}: {wrong}')
     if count == 0:
         errors.append(f'{path}:1: There is no instruction in this file.')
     if errors:
         raise Refused('\n'.join(errors))
-    whole = parcel([w for w, _ in made], [note for _, note in made], entry)
-    return {'.vsp': whole, '.words': whole[16:16 + 8 * count]} if alone else {'.vsp': whole}
+    words, notes = zip(*made)
+    whole = parcel(words, notes, entry, version=version)
+    return {'.vsp': whole, '.words': b''.join(w.to_bytes(8, 'little') for w in words)} if alone else {'.vsp': whole}
 
 
 # ---- files

@@ -11,9 +11,10 @@ import random
 import subprocess
 import sys
 from front import write, write_comparison
-from paper01 import R0, ROWS, contents, differ, differences, misfit, parcel, parts, row_number, source_legal, word
+from paper01 import BOTH, FORMATS, LOW, R0, ROWS, contents, differ, differences, halved, misfit, opening, parcel, parcel_of, parts, row_number, \
+    source_legal, version_of, versioned, word
 
-LONGEST = 32784
+LONGEST = 49176
 A = 0x0091C10000000002  # MOV r1, r2
 A_END = 0x7891C10000000002
 B = 0x7800000000000000  # NOP, end
@@ -36,12 +37,20 @@ def alone(w, entry=(), note=()):
     return parcel([w], [note], entry)
 
 
-def plain(words, note=()):
+def plain(words, note=(), make=parcel):
     """A parcel with the same note throughout."""
-    return parcel(words, [note] * len(words), [])
+    return make(words, [note] * len(words), [])
 
 
-# ---- the stored pair: all fields and all modifiers, added instructions, entry sets and notes
+def of_version(data, version):
+    """The same words and sets in another version; of what does not open the same bytes."""
+    if opening(data):
+        return versioned(data, version)
+    entry, words, notes = parts(data)
+    return parcel_of(words, notes, entry, version=version)
+
+
+# ---- a pair with all fields and all modifiers, added instructions, entry sets and notes; with its second parcel in version 2 it is stored
 
 rich = (
     parcel([
@@ -108,6 +117,21 @@ entry 0000000000000009 -> 8000000000000001
 0003 note 000000000000001E -> 800000000000001E
 """)
 
+# The second parcel in version 2, and with sets whose halves differ.
+stored = (
+    rich[0],
+    halved(parts(rich[1])[1], [[3], [0, '3L'], [], [1, 2, 3, 4, 63], [1, 2, 3, '9L', '10H'], [1, 2, 3], [], [7], ['8L']], [0, '3H', '63L']),
+    'version 1 -> 2\n' + rich[2][:rich[2].index('entry')] + """\
+entry low 0000000000000009 -> 8000000000000001
+0001 note high 0000000000000009 -> 0000000000000001
+0002 note low 0000000000000004 -> 0000000000000000
+0002 note high 0000000000000004 -> 0000000000000000
+0003 note low 000000000000001E -> 800000000000001E
+0003 note high 000000000000001E -> 800000000000001E
+0004 note low 000000000000000E -> 000000000000020E
+0004 note high 000000000000000E -> 000000000000040E
+""")
+
 # ---- pairs
 
 
@@ -143,6 +167,8 @@ def bit_flipped(data, bit):
 approved = parcel(APPROVED, [[0, 1], [1, 2], [2, 3], [2, 3, 4], [2, 3, 4]], [0, 1])
 moves = [of('MOV.i32', register=i % 64, sources=(i * 7 % 64,)) for i in range(2047)]
 most = plain(moves + [B], range(64))
+most2 = plain(moves + [B], range(64), halved)
+one2 = halved([B], [[]], [])
 branch = of('BRANCHZ', sources=(0xC0,), offset=-1, fields={35: 1, 36: 1, 37: 4})
 flush = of('FLUSH.f32', register=1, sources=(0xC0,), fields={8: 2, 10: 1, 11: 1, 28: 1, 38: 1, 39: 1})
 
@@ -176,6 +202,7 @@ longest = (
 
 # The first parcel, the second, and what comes of them: the list, or a refusal's parcel, number, place and index; None where it is not plain.
 pairs = {
+    'stored': stored,
     'rich': rich,
     'rich-turned': (rich[1], rich[0], None),
     'every-field': every_field(),
@@ -241,7 +268,7 @@ pairs = {
     'second-empty': (approved, b'', ('second', 12, 0, 0)),
     'first-mark': (b'VSQ' + approved[3:], approved, ('first', 10, 0, 0)),
     'second-mark': (approved, b'vSP' + approved[3:], ('second', 10, 0, 0)),
-    'first-version': (parcel([B], [[]], [], version=2), approved, ('first', 11, 0, 0)),
+    'first-version': (parcel([B], [[]], [], version=3), approved, ('first', 11, 0, 0)),
     'second-byte-5': (approved, parcel([B], [[]], [], zero=1), ('second', 13, 0, 0)),
     'first-count': (parcel([], [], []), approved, ('first', 12, 0, 0)),
     'second-count': (approved, parcel([B], [[]], [], n=2049), ('second', 12, 0, 0)),
@@ -273,12 +300,71 @@ pairs = {
     'word-and-short': (plain([NOP, 1 << 63]), approved[:15], ('first', 3, 63, 1)),
     'short-and-word': (approved[:15], plain([NOP, 1 << 63]), ('first', 12, 0, 0)),
     'words-6-and-2': (plain([B, B, 0x00F0C00600020100]), alone(0x0091C10000010002), ('first', 6, 32, 2)),
-    'mark-and-version': (parcel([B], [[]], [], mark=b'VSQ'), parcel([B], [[]], [], version=2), ('first', 10, 0, 0)),
+    'mark-and-version': (parcel([B], [[]], [], mark=b'VSQ'), parcel([B], [[]], [], version=3), ('first', 10, 0, 0)),
     'both-empty': (b'', b'', ('first', 12, 0, 0)),
     # unsafe, which is not judged
     'unsafe': (alone(A, [3], [5]), alone(A_END), '0000 flow 0 -> F\nentry 0000000000000008 -> 0000000000000000\n'
                '0000 note 0000000000000020 -> 0000000000000000\n'),
 }
+# Pairs that are tried in the other versions too.
+IN_VERSIONS = ['rich', 'rich-turned', 'same', 'flow', 'one-added', 'notes-of-removed', 'inserted', 'entry', 'note', 'notes', 'all-kinds', 'longest-list',
+               'second-word-3', 'first-word-6', 'second-too-long', 'unsafe']
+EMPTY, R0_SET = '0000000000000000', '0000000000000001'
+halved_pairs = {
+    # a half, and no other
+    'entry-low': (one2, halved([B], [[]], ['0L']), f'entry low {EMPTY} -> {R0_SET}\n'),
+    'entry-high': (halved([B], [[]], ['0H']), one2, f'entry high {R0_SET} -> {EMPTY}\n'),
+    'entry-both': (one2, halved([B], [[]], [0]), f'entry low {EMPTY} -> {R0_SET}\nentry high {EMPTY} -> {R0_SET}\n'),
+    'entry-other-half': (halved([B], [[]], ['0L']), halved([B], [[]], ['0H']), f'entry low {R0_SET} -> {EMPTY}\nentry high {EMPTY} -> {R0_SET}\n'),
+    'note-low': (one2, halved([B], [['0L']], []), f'0000 note low {EMPTY} -> {R0_SET}\n'),
+    'note-high': (halved([NOP, B], [[], ['0H']], []), halved([NOP, B], [[], []], []), f'0001 note high {R0_SET} -> {EMPTY}\n'),
+    'notes-in-order': (halved([NOP, B], [[], []], []), halved([NOP, B], [[0], ['0H']], []),
+                       f'0000 note low {EMPTY} -> {R0_SET}\n0000 note high {EMPTY} -> {R0_SET}\n0001 note high {EMPTY} -> {R0_SET}\n'),
+    # a set of version 1 counts as both halves
+    'versions-alone': (alone(B, [0], [0]), halved([B], [[0]], [0]), 'version 1 -> 2\n'),
+    'versions-alone-turned': (halved([B], [[0]], [0]), alone(B, [0], [0]), 'version 2 -> 1\n'),
+    'versions-and-half': (alone(B, [0], [0]), halved([B], [['0H']], ['0L']),
+                          f'version 1 -> 2\nentry high {R0_SET} -> {EMPTY}\n0000 note low {R0_SET} -> {EMPTY}\n'),
+    'versions-and-half-turned': (halved([B], [['0H']], ['0L']), alone(B, [0], [0]),
+                                 f'version 2 -> 1\nentry high {EMPTY} -> {R0_SET}\n0000 note low {EMPTY} -> {R0_SET}\n'),
+    'versions-of-most': (most, most2, 'version 1 -> 2\n'),
+    # one is refused
+    'halves-first-length': (versioned(approved, 2), approved, ('first', 12, 0, 0)),
+    'halves-second-length': (approved, versioned(one2, 1), ('second', 12, 0, 0)),
+    'halves-first-16': (one2[:16], approved, ('first', 12, 0, 0)),
+    'halves-second-23': (one2, one2[:23], ('second', 12, 0, 0)),
+    'halves-second-version': (one2, versioned(one2, 3), ('second', 11, 0, 0)),
+    'halves-first-word': (plain([NOP, 1 << 63], [], halved), approved, ('first', 3, 63, 1)),
+    'halves-second-word': (approved, plain([NOP, 0x00F0C00600020100], [], halved), ('second', 6, 32, 1)),
+    'halves-last-word': (most2, plain(moves + [1 << 63], [], halved), ('second', 3, 63, 2047)),
+    'halves-first-too-long': (most2 + b'\0', approved, ('first', 12, 0, 0)),
+    'halves-both-too-long': (most2, most2 + bytes(100000), ('second', 12, 0, 0)),
+}
+
+
+def by_halves(due):
+    """The lines of two parcels of version 1, as they are where one of them is of version 2: a line for each half."""
+    if not isinstance(due, str):
+        return due
+    lines = []
+    for line in due.splitlines(keepends=True):
+        what = next((what for what in ('entry ', ' note ') if what in line), None)
+        lines += [line] if what is None else [line.replace(what, f'{what}{half} ') for half in ('low', 'high')]
+    return ''.join(lines)
+
+
+def in_versions():
+    """Pairs of version 1 in the other versions."""
+    for name in IN_VERSIONS:
+        first, second, due = pairs[name]
+        for versions in ((2, 2), (1, 2), (2, 1)):
+            change = 'version %d -> %d\n' % versions if versions != (2, 2) else ''
+            listed = change + by_halves(due) if isinstance(due, str) else due
+            yield f'{name}-{versions[0]}-{versions[1]}', (of_version(first, versions[0]), of_version(second, versions[1]), listed)
+
+
+pairs.update(halved_pairs)
+pairs.update(in_versions())
 
 
 def input_of(first, second):
@@ -298,12 +384,13 @@ def raw_inputs():
     one = alone(B)
     yield from (bytes(length) for length in range(9))
     yield from (b'\xff' * length for length in range(9))
-    for length in (0, 1, 15, 16, 31, 32, 33, 63, 64, 65, 1000, 32784, 32785, 65536, 1 << 32 | 32, 1 << 63, 1 << 63 | 32, (1 << 64) - 32, (1 << 64) - 1):
+    for length in (0, 1, 15, 16, 31, 32, 33, 63, 64, 65, 1000, 49176, 49177, 65536, 1 << 32 | 32, 1 << 63, 1 << 63 | 32, (1 << 64) - 32, (1 << 64) - 1):
         yield length.to_bytes(8, 'little') + one + alone(A)
         yield length.to_bytes(8, 'little') + one
         yield length.to_bytes(8, 'little')
     # not cut
-    for first, second in ((approved, most + bytes(100000)), (most + bytes(100000), approved), (most + bytes(40000), b''), (most, most + bytes(1))):
+    for first, second in ((approved, most + bytes(100000)), (most + bytes(100000), approved), (most + bytes(40000), b''), (most, most + bytes(1)),
+                          (most2, most2 + bytes(100000)), (most2 + bytes(100000), approved), (most2, most2 + bytes(1))):
         yield len(first).to_bytes(8, 'little') + first + second
 
 
@@ -320,26 +407,31 @@ def random_word(draw):
 
 
 def random_parcel(draw, words):
+    version = draw.choice((1, 2))
+
     def registers():
-        return [r for r in range(64) if draw.randrange(16) == 0]
-    return parcel(words, [draw.choice(([], [1], registers())) for _ in words], draw.choice(([], registers())))
+        return [draw.choice((r, f'{r}L', f'{r}H')) if version == 2 else r for r in range(64) if draw.randrange(16) == 0]
+    return parcel(words, [draw.choice(([], [1], registers())) for _ in words], draw.choice(([], registers())), version=version)
 
 
 def random_pair(draw):
     words = [random_word(draw) for _ in range(draw.choice((1, 2, 5, 40)))]
     first = random_parcel(draw, words)
-    kind = draw.randrange(6)
+    header = FORMATS[version_of(first)][0]
+    kind = draw.randrange(7)
     if kind == 0:
         return first, random_parcel(draw, [random_word(draw) for _ in range(draw.choice((1, 2, 5, 40)))])
     if kind == 1:
         return first, random_parcel(draw, words[:draw.randrange(1, len(words) + 1)])
     if kind == 2:
         at = draw.randrange(len(words))
-        return first, parcel(words[:at] + [random_word(draw)] + words[at:], [[]] * (len(words) + 1), [1])
+        return first, parcel(words[:at] + [random_word(draw)] + words[at:], [[]] * (len(words) + 1), [1], version=draw.choice((1, 2)))
     if kind == 3:
         return first, first[:draw.randrange(len(first) + 1)]
+    if kind == 4:
+        return first, of_version(first, draw.choice((1, 2)))
     # a bit, of the words or of anything: other contents, or a refusal
-    bit = draw.randrange(128, 128 + 64 * len(words)) if kind == 4 else draw.randrange(8 * len(first))
+    bit = 8 * header + draw.randrange(64 * len(words)) if kind == 5 else draw.randrange(8 * len(first))
     return first, bit_flipped(first, bit)
 
 
@@ -350,17 +442,29 @@ def random_pairs(count):
         yield pair if draw.randrange(2) else pair[::-1]
 
 
+def replaced(s, half, left, right):
+    """A set of halves with other contents, of a half or of whole registers."""
+    if not half:
+        assert s == left * BOTH
+        return right * BOTH
+    shift = {'low': 0, 'high': 64}[half]
+    assert s >> shift & LOW == left
+    return s ^ (left ^ right) << shift
+
+
 def patched(first, lines):
-    """What the second parcel has by the list: the contents of each instruction, the entry set, and the notes that both have."""
-    entry, words, notes = parts(first)
+    """What the second parcel has by the list: the version, the contents of each instruction, the entry set, and the notes that both have."""
+    version, (entry, words, notes) = version_of(first), parts(first)
     words, notes = [contents(w) for w in words], list(notes)
     for index, what, left, right in lines:
-        if what == 'entry':
-            assert left == entry
-            entry = right
-        elif what == 'note':
-            assert left == notes[index]
-            notes[index] = right
+        kind, _, half = what.partition(' ')
+        if kind == 'version':
+            assert left == version
+            version = right
+        elif kind == 'entry':
+            entry = replaced(entry, half, left, right)
+        elif kind == 'note':
+            notes[index] = replaced(notes[index], half, left, right)
         elif what == 'added':
             assert index == len(words)
             words.append(contents(right))
@@ -370,7 +474,7 @@ def patched(first, lines):
         else:
             assert left == words[index].get(what, 0)
             words[index][what] = right
-    return [{field: bits for field, bits in w.items() if bits or field == 'row'} for w in words if w], entry, notes
+    return version, [{field: bits for field, bits in w.items() if bits or field == 'row'} for w in words if w], entry, notes
 
 
 def names_what_differs(first, second):
@@ -380,12 +484,12 @@ def names_what_differs(first, second):
     _, lines = differences(first, second)
     assert (lines == []) == (first == second), (first, second)
     assert all(left != right for _, _, left, right in lines), lines
-    words, entry, notes = patched(first, lines)
+    version, words, entry, notes = patched(first, lines)
     wanted, wanted_words, wanted_notes = parts(second)
-    assert entry == wanted
+    assert (version, entry) == (version_of(second), wanted)
     shared = min(len(notes), len(wanted_notes))
     assert notes[:shared] == wanted_notes[:shared]
-    assert words == patched(second, [])[0] and len(words) == len(wanted_words)
+    assert words == patched(second, [])[1] and len(words) == len(wanted_words)
 
 
 # ---- the calls
@@ -397,7 +501,7 @@ def worked_out(first, second, due):
     if isinstance(due, str):
         assert (said, error) == (due, ''), (said, error, due)
     elif due is not None:
-        assert differences(first, second) == ('refused', *due, 64), (differences(first, second), due)
+        assert differences(first, second) == ('refused', *due, 64, ''), (differences(first, second), due)
     return said, error
 
 
@@ -432,9 +536,9 @@ def run_all(program):
 
 def main(arguments):
     if arguments == ['--input']:
-        sys.stdout.buffer.write(input_of(*rich[:2]))
+        sys.stdout.buffer.write(input_of(*stored[:2]))
     elif not arguments:
-        sys.stdout.write(worked_out(*rich)[0])
+        sys.stdout.write(worked_out(*stored)[0])
     elif arguments[0] == '--program':
         run_all(arguments[1])
     else:

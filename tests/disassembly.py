@@ -2,7 +2,7 @@
 enumerations and the names of source document 002.
 
 As paper01.py it is a second opinion, and shares no table with the Rattle code."""
-from paper01 import ROWS, IMMEDIATES, SPECIALS, bits, check, effect, fits, members, opening, parts, read
+from paper01 import ROWS, IMMEDIATES, SPECIALS, bits, check, fits, opening, parts, read, registers_in, version_of, way
 
 # ---- the text of an instruction
 
@@ -77,7 +77,7 @@ def text_of(w):
     """The text of a word that reads."""
     _, k = read(w.to_bytes(8, 'little'))
     return text(k, page=bits(w, 57, 2), flow=bits(w, 59, 4), register=bits(w, 40, 6), mask=bits(w, 46, 2), sources=[bits(w, 8 * j, 8) for j in range(4)],
-                fields={low: bits(w, low, width) for low, width, _, _ in ROWS[k]['fields']}, offset=effect(w)[4])
+                fields={low: bits(w, low, width) for low, width, _, _ in ROWS[k]['fields']}, offset=way(w)[1])
 
 
 # ---- the names that 002 has and the scope leaves out
@@ -128,20 +128,26 @@ def left_out(w):
 # ---- what `show` writes of a parcel
 
 
-def registers(s):
-    """A set of registers as rows."""
+def rows_of(names):
+    """The first and the last of each row in ascending registers with the letter of their half."""
     rows = []
-    for r in sorted(members(s)):
-        if rows and rows[-1][1] == r - 1:
+    for r, half in names:
+        if rows and rows[-1][1:] == [r - 1, half]:
             rows[-1][1] = r
         else:
-            rows.append([r, r])
-    return ','.join(f'r{first}' if first == last else f'r{first}-r{last}' for first, last in rows) or 'none'
+            rows.append([r, r, half])
+    return rows
+
+
+def registers(s):
+    """A set of halves as rows in the registers' order, with L or H where only one half is in it."""
+    names = sorted((r, half) for half, numbers in zip(('', 'L', 'H'), registers_in(s)) for r in numbers)
+    return ','.join(f'r{first}{half}' if first == last else f'r{first}{half}-r{last}{half}' for first, last, half in rows_of(names)) or 'none'
 
 
 def target(w, i):
     """Where instruction i, a word that reads, branches to, or None."""
-    *_, ends, offset = effect(w)
+    ends, offset = way(w)
     return None if ends or offset is None else i + 1 + offset
 
 
@@ -183,25 +189,27 @@ def column(words, i, texts):
     return texts.get(w, text_of(w)) + arrow
 
 
-def why(number, register):
+def why(data, number, _place, _index, register, half):
+    """What is wrong with the instruction that a refusal is about. Version 1 knows no halves."""
     if number < 10:
         return 'is no legal instruction, so the program was not judged'
-    return {20: f'reads r{register}, which its note does not name',
+    missing = f'r{register}' if version_of(data) == 1 else f'r{register}{half}'
+    return {20: f'reads {missing}, which its note does not name',
             21: 'can go on to a place outside the program',
-            22: f'can go on to an instruction whose note names r{register}, which by its own note it does not leave filled',
-            23: f'has a note that names r{register}, which the parcel does not say is filled before the start'}[number]
+            22: f'can go on to an instruction whose note names {missing}, which by its own note it does not leave filled',
+            23: f'has a note that names {missing}, which the parcel does not say is filled before the start'}[number]
 
 
 def verdict_words(data):
     refused = check(data)
     if refused is None:
         return 'ACCEPTED: whichever way the program goes, it reads no register that is not filled, if the display fills what the parcel says.'
-    number, _, index, register = refused
+    number, _, index, *_ = refused
     told = {10: 'this is no parcel, since it does not begin with VSP',
-            11: 'the version of the parcel is not 1',
+            11: 'the version of the parcel is neither 1 nor 2',
             12: 'the count of instructions or the length is wrong',
             13: 'byte 5 of the parcel is not 0'}
-    return f'REFUSED with {number}: ' + (told.get(number) or f'instruction {index} {why(number, register)}') + '.'
+    return f'REFUSED with {number}: ' + (told.get(number) or f'instruction {index} {why(data, *refused)}') + '.'
 
 
 def lines_of(data, texts):
@@ -215,7 +223,7 @@ def lines_of(data, texts):
     for i, (w, note) in enumerate(zip(words, notes)):
         yield f'{">" if i in targets else " "}{i:04d}  {w:016X}  {shown[i]:{width}}  {registers(note)}'
         if refused is not None and refused[2] == i:
-            yield f'{"":25}^ {why(refused[0], refused[3])}'
+            yield f'{"":25}^ {why(data, *refused)}'
 
 
 def shown(data, texts=None):
@@ -223,6 +231,6 @@ def shown(data, texts=None):
     lines = []
     if opening(data) is None:
         entry, words, _ = parts(data)
-        lines = ['parcel version: 1', f'instructions: {len(words)}', f"filled before the start, by the parcel's own claim: {registers(entry)}", '',
-                 *lines_of(data, texts or {}), '']
+        lines = [f'parcel version: {version_of(data)}', f'instructions: {len(words)}',
+                 f"filled before the start, by the parcel's own claim: {registers(entry)}", '', *lines_of(data, texts or {}), '']
     return ''.join(line + '\n' for line in [*lines, verdict_words(data)])

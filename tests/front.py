@@ -3,19 +3,24 @@
     front.py parcels FOLDER               writes NAME.vsp, and NAME.out, what the lister must write
     front.py sentences PARCELS FOLDER     for each NAME.vsp in PARCELS writes FOLDER/NAME.err, the sentences
 
-Verdicts, places and entry sets are worked out from the paper (paper01.py)."""
+Verdicts, places and entry sets are worked out from the papers (paper01.py)."""
 import os
 import sys
-from disassembly import reason
-from paper01 import R0, check, difference_text, differences, listing, members, opening, parcel, parts, row_number, verdict_line, word
+from disassembly import reason, rows_of
+from paper01 import FORMATS, R0, check, count_in, difference_text, differences, halved, listing, opening, parcel, parts, registers_in, row_number, \
+    verdict_line, version_of, versioned, word
 
+A_END = 0x7891C10000000002  # MOV r1, r2, end
 B = 0x7800000000000000  # NOP, end
+LOW_WRITE = 0x0091410000000002  # MOV r1.h0, r2
 FIVE = parcel([0, 0, 0, 0, B], [[]] * 5, [])
 ONE = parcel([B], [[]], [])
+FIVE2 = halved([0, 0, 0, 0, B], [[]] * 5, [])
+ONE2 = halved([B], [[]], [])
 
 
-def unreadable(w):
-    return parcel([0, w, B], [[]] * 3, [3])
+def unreadable(w, make=parcel):
+    return make([0, w, B], [[]] * 3, [3])
 
 
 parcels = {
@@ -59,8 +64,9 @@ parcels = {
     'length-65537': ONE + bytes(65537 - 32),
     'length-100000': FIVE + bytes(100000 - 96),
     # the other opening refusals, and their order
-    'mark-first': parcel([B], [[]], [], mark=b'vsp', version=2, zero=1, n=0),
-    'version-2': parcel([B], [[]], [], version=2, zero=1, n=0),
+    'mark-first': parcel([B], [[]], [], mark=b'vsp', version=3, zero=1, n=0),
+    'version-3': parcel([B], [[]], [], version=3, zero=1, n=0),
+    'version-0': versioned(ONE, 0),
     'version-256': parcel([B], [[]], [], version=256),
     'byte-5': parcel([B], [[]], [], zero=255, n=0),
     # entry sets
@@ -70,27 +76,66 @@ parcels = {
     'entry-rows': parcel([B], [[]], [0, 1, 2, 4, 5, 7, 60, 61, 62, 63]),
     'entry-all': parcel([B], [[]], range(64)),
     'entry-and-23': parcel([B], [[0, 5]], [0]),
+    # version 2: a word, the count before the length, and the length
+    'halves-word-3': unreadable(0x0091C10000008002, halved),
+    'halves-word-7-first': halved([0x0091C100000000E0], [[]], []),
+    'halves-count-0': halved([], [], []),
+    'halves-count-0-short': ONE2[:6] + bytes(10),
+    'halves-count-2049': halved([0] * 2049, [[]] * 2049, []),
+    'halves-length-15': ONE2[:15],
+    'halves-length-16': ONE2[:16],
+    'halves-length-23': ONE2[:23],
+    'halves-length-24': ONE2[:24],
+    'halves-length-32': versioned(ONE, 2),
+    'halves-length-47': ONE2[:47],
+    'halves-length-49': ONE2 + b'\0',
+    'halves-length-143': FIVE2[:143],
+    'halves-length-65537': ONE2 + bytes(65537 - 48),
+    'length-48': versioned(ONE2, 1),
+    'halves-version-3': versioned(ONE2, 3),
+    'halves-byte-5': halved([B], [[]], [], zero=1),
+    # the half that is missing
+    'halves-20-low': halved([A_END], [['2H']], [2]),
+    'halves-20-high': halved([A_END], [['2L']], [2]),
+    'halves-21': halved([0], [[]], []),
+    'halves-22-low': halved([0, B], [['1H'], [1]], [1]),
+    'halves-22-high': halved([LOW_WRITE, B], [[2], [1, 2]], [2]),
+    'halves-23-low': halved([B], [[0, 5]], ['5H', 0]),
+    'halves-23-high': halved([B], [['5H']], ['5L']),
+    # entry sets of version 2: whole registers, low halves, high halves
+    'halves-entry-none': ONE2,
+    'halves-entry-whole': halved([B], [[]], [0, 1]),
+    'halves-entry-low': halved([B], [[]], ['63L']),
+    'halves-entry-high': halved([B], [[]], ['0H']),
+    'halves-entry-two': halved([B], [[]], ['3L', '4H']),
+    'halves-entry-mixed': halved([B], [[]], [0, 9, '1L', '2L', '3L', '5L', '5H', '4H', '6H', '7H', '8H', '63L']),
+    'halves-entry-all': halved([B], [[]], range(64)),
 }
 
 
-def names(registers):
-    """The registers in order; three and more in a row by the first and the last."""
-    rows = []
-    for r in sorted(registers):
-        if rows and rows[-1][-1] == r - 1:
-            rows[-1].append(r)
-        else:
-            rows.append([r])
-    return ', '.join(f'r{row[0]} to r{row[-1]}' if len(row) > 2 else ', '.join(f'r{r}' for r in row) for row in rows)
+def row_names(first, last, half):
+    """Three and more registers in a row by the first and the last."""
+    if last - first > 1:
+        return f'r{first}{half} to r{last}{half}'
+    return ', '.join(f'r{r}{half}' for r in range(first, last + 1))
 
 
-def claim(registers):
+def names(s):
+    """What a set of halves has, in order: whole registers, then those of which only the low half is in it, then those with the high half."""
+    return ', '.join(row_names(first, last, half) for half, numbers in zip(('', 'L', 'H'), registers_in(s))
+                     for first, last, _ in rows_of((r, half) for r in numbers))
+
+
+def are_filled(s):
+    count = sum(map(len, registers_in(s)))
+    return f'{names(s) or "no register"} {"is" if count < 2 else "are"} filled'
+
+
+def claim(s):
     """What is said of the entry set."""
-    filled = names(registers)
-    if not registers:
+    if s == 0:
         return 'the parcel says that no register is filled before it starts.'
-    verb = 'is' if len(registers) == 1 else 'are'
-    return f'the parcel says that {filled} {verb} filled before it starts. That is its own claim; with --entry you say what the display really fills.'
+    return f'the parcel says that {are_filled(s)} before it starts. That is its own claim; with --entry you say what the display really fills.'
 
 
 def size_told(data):
@@ -98,64 +143,74 @@ def size_told(data):
 
 
 def about_size(data):
-    n = int.from_bytes(data[6:8], 'little')
+    n = count_in(data)
     if len(data) < 16:
         return f'the parcel is too short: it has {len(data)} of the 16 bytes of a header'
-    if not 1 <= n <= 2048:
-        return f"the parcel's count of instructions is {n}, and it must be from 1 to 2048"
+    header, note, most = FORMATS[version_of(data)]
+    if not 1 <= n <= most:
+        return f"the parcel's count of instructions is {n}, and it must be from 1 to {most}"
     need = '1 instruction needs' if n == 1 else f'{n} instructions need'
-    return f"the parcel's length is wrong: it has {size_told(data)} bytes, and {need} {16 + 16 * n}"
+    return f"the parcel's length is wrong: it has {size_told(data)} bytes, and {need} {header + (8 + note) * n}"
 
 
-def meaning(data, number, place, index, register, start=16):
-    """Of a refusal of a parcel, or of what else has its words from `start` on."""
+def about_word(w, index, number, place):
+    return f'the word at index {index}, {w:016X}, is no legal instruction: {reason(w, number, place)}'
+
+
+def meaning(data, number, place, index, register, half):
+    """Of a refusal of a parcel."""
+    if number == 12:
+        return about_size(data)
     if 2 <= number <= 7:
-        w = int.from_bytes(data[start + 8 * index:start + 8 * index + 8], 'little')
-        return f'the word at index {index}, {w:016X}, is no legal instruction: {reason(w, number, place)}'
+        return about_word(parts(data)[1][index], index, number, place)
+    missing, kind = (f'register {register}', 'register') if version_of(data) == 1 else (f'r{register}{half}', 'half')
     return {
         10: 'this is no parcel: it does not begin with the letters VSP',
-        11: f'the parcel has version {int.from_bytes(data[3:5], "little")}, and this tool reads version 1',
-        12: about_size(data),
-        13: f'byte 5 of the parcel is {data[5] if len(data) > 5 else None}, and it must be 0',
-        20: f'instruction {index} reads register {register}, which its note does not name as filled',
+        11: f'the parcel has version {version_of(data)}, and this tool reads versions 1 and 2',
+        13: f'byte 5 of the parcel is {data[5]}, and it must be 0',
+        20: f'instruction {index} reads {missing}, which its note does not name as filled',
         21: f'instruction {index} can go on to a place outside the program',
-        22: f'instruction {index} can go on to an instruction whose note names register {register}, '
-            f'and by its own note instruction {index} does not leave that register filled',
-        23: f'the note of instruction 0 names register {register}, which the parcel does not say is filled before it starts',
+        22: f'instruction {index} can go on to an instruction whose note names {missing}, '
+            f'and by its own note instruction {index} does not leave that {kind} filled',
+        23: f'the note of instruction 0 names {missing}, which the parcel does not say is filled before it starts',
     }[number]
 
 
 def sentences(data):
     lines = []
     if opening(data) is None:
-        lines.append(claim(members(int.from_bytes(data[8:16], 'little'))))
+        lines.append(claim(parts(data)[0]))
     verdict = check(data)
     if verdict is not None:
         lines.append(f'refused with {verdict[0]}: {meaning(data, *verdict)}.')
     return ''.join(f'vsp: {line}\n' for line in lines)
 
 
-def answer(data, result):
-    """What notes writes on standard error for the words `data`, of which paper01.infer gives `result`."""
+def answer(version, data, result):
+    """What notes writes on standard error for a version and the words `data`, of which paper01.infer gives `result`."""
     if result[0] == 'notes':
         return f'vsp: the notes took {result[1]} sweep{"" if result[1] == 1 else "s"}.\n'
-    _, number, place, index, register = result
-    if number == 12:
+    _, number, place, index, *_ = result
+    if number == 11:
+        why = f'--version asks for version {version}, and this tool makes versions 1 and 2'
+    elif number == 12:
         why = f'the length of the words in bytes is {size_told(data)}, and it must be 8 for each of 1 to 2048 instructions'
     elif number == 24:
         why = 'no notes at all would be accepted: some way through the program reads a register that is not filled there, ' \
             'or leads out of the program; ways that begin in a part that is never reached count too'
     else:
-        why = meaning(data, number, place, index, register, start=0)
+        why = about_word(int.from_bytes(data[8 * index:8 * index + 8], 'little'), index, number, place)
     hint = 'vsp: this file begins with the letters VSP, as a parcel does; notes takes the words alone.\n' if data[:3] == b'VSP' else ''
-    return f'{verdict_line(number, place, index, register)}\nvsp: refused with {number}: {why}.\n{hint}'
+    return f'{verdict_line(*result[1:])}\nvsp: refused with {number}: {why}.\n{hint}'
 
 
 def summary(lines, shared):
     """What diff says of a list of differences between parcels that have `shared` instructions in common."""
-    counts = {what: sum(line[1] == what for line in lines) for what in ('added', 'removed', 'entry', 'note')}
-    changed = len({index for index, what, _, _ in lines if what not in counts})
-    said = []
+    kinds = [(index, what.split()[0]) for index, what, _, _ in lines]
+    # of the notes of an instruction both halves can differ
+    counts = {kind: len({index for index, what in kinds if what == kind}) for kind in ('version', 'added', 'removed', 'entry', 'note')}
+    changed = len({index for index, what in kinds if what not in counts})
+    said = ['the versions differ'] if counts['version'] else []
 
     def instructions(count):
         if any('instruction' in part for part in said):

@@ -148,6 +148,22 @@ CODE = [
     ('NOP | u0', "'u0' stands where only whole registers do."),
     ('NOP | 0', "'0' is neither"),
     ('NOP | r0 | r1', "'|' is neither"),
+    ('version2 |', "'version2' is no instruction"),
+]
+
+# A note of a version 2 parcel, and how the sentence on it begins.
+NOTES = [
+    ('r64.low', 'The number of a register goes from 0 to 63, and 64 is more.'),
+    ('r0.mid', "'r0.mid' stands where only registers and their halves do."),
+    ('r0L', "'r0L' is neither"),
+    ('r0^', "'r0^' stands where only registers and their halves do."),
+    ('r0.low^', "'r0.low^' stands where only registers and their halves do."),
+    ('u0', "'u0' stands where only registers and their halves do."),
+    ('u0.low', "'u0.low' stands where only registers and their halves do."),
+    ('r0 r0', 'r0 is named twice.'),
+    ('r0 r1 r0.low', 'r0.low is named twice.'),
+    ('r0.high r0', 'r0 is named twice.'),
+    ('r0.high r0.low r0.high', 'r0.high is named twice.'),
 ]
 
 # A whole source, the line at fault, and how the sentence on it begins.
@@ -160,6 +176,17 @@ SOURCES = [
     ('entry r1 r1\nNOP |\n', 1, 'r1 is named twice.'),
     ('entry u1\nNOP |\n', 1, "'u1' stands where only whole registers do."),
     ('entry r1 | r1\nNOP |\n', 1, "'|' is neither"),
+    ('entry r1.low\nNOP |\n', 1, "'r1.low' stands where only whole registers do."),
+    ('version 1\nentry r1.low\nNOP |\n', 2, "'r1.low' stands where only whole registers do."),
+    ('version 2\nentry r1.low r1\nNOP |\n', 2, 'r1 is named twice.'),
+    ('NOP | r1.low\nversion 2\nversion 2\n', 3, 'A line before this one names the version.'),
+    ('version 1\nversion 2\nNOP |\n', 2, 'A line before this one names the version.'),
+    ('version\nNOP |\n', 1, "The version is 1 or 2, and '' is neither."),
+    ('NOP |\nversion 0\n', 2, "The version is 1 or 2, and '0' is neither."),
+    ('version 3\nNOP | r1.low\n', 1, "The version is 1 or 2, and '3' is neither."),
+    ('version 02\nNOP |\n', 1, "The version is 1 or 2, and '02' is neither."),
+    ('version 2 |\nNOP |\n', 1, "The version is 1 or 2, and '2 |' is neither."),
+    ('version 2\n', 1, 'There is no instruction in this file.'),
     ('words\nNOP |\nwords\n', 3, 'A line before this one asks for the words alone.'),
     ('NOP |\nwords r0\n', 2, '`words` has its line for itself.'),
     ('NOP |\nwords |\n', 2, '`words` has its line for itself.'),
@@ -204,7 +231,8 @@ def fresh(room):
 
 
 def refusals():
-    return [('NOP |\n\n' + line + '\n', 3, start) for line, start in CODE if ' to ' not in line] \
+    return [('version 2\nNOP | ' + note + '\n', 2, start) for note, start in NOTES] \
+        + [('NOP |\n\n' + line + '\n', 3, start) for line, start in CODE if ' to ' not in line] \
         + [(line + '\n', 1, start) for line, start in CODE if ' to ' in line] + SOURCES
 
 
@@ -221,6 +249,27 @@ def accepts_words(room):
         got = int.from_bytes(made['a name.vsp'][16 + 8 * k:24 + 8 * k], 'little')
         assert got == w, f'{code}: {got:016X} and not {w:016X}'
     assert made['a name.vsp'] == expected
+
+
+def accepts_versions(room):
+    """Version 1 where it is named or not, and version 2, with halves."""
+    folder = fresh(room)
+    text = 'NOP | r0 r63\nNOP end |\n'
+    put(folder, 'a.vsa', 'entry r2\n' + text)
+    put(folder, 'b.vsa', '  version\t1 # the first\r\nentry r2\n' + text)
+    put(folder, 'c.vsa', 'entry r2\n' + text + 'version 2')
+    put(folder, 'd.vsa', 'version 2\nentry r2.low, r3.high, r0\nwords\nNOP | r5.high r5.low r63.high\nNOP end | r1.low\n')
+    assert run(folder, 'a.vsa', 'b.vsa', 'c.vsa', 'd.vsa') == (0, '', '')
+    made = files(folder)
+    words = bytes(8) + (15 << 59).to_bytes(8, 'little')
+
+    def expected(version, *sets):
+        numbers = [s.to_bytes(8, 'little') for s in sets]
+        return b'VSP' + bytes([version, 0, 0, 2, 0]) + b''.join(numbers[:version]) + words + b''.join(numbers[version:])
+    assert made['a.vsp'] == made['b.vsp'] == expected(1, 4, 1 << 63 | 1, 0)
+    assert made['c.vsp'] == expected(2, 4, 4, 1 << 63 | 1, 1 << 63 | 1, 0, 0)
+    assert made['d.vsp'] == expected(2, 0b101, 0b1001, 1 << 5, 1 << 63 | 1 << 5, 2, 0)
+    assert made['d.words'] == words
 
 
 def gives_words(room):
@@ -390,7 +439,7 @@ def tells_unwritten(room):
 
 
 with tempfile.TemporaryDirectory() as room:
-    for test in (accepts_words, gives_words, accepts_limits, refuses, refuses_together, refuses_each_line, refuses_files, takes_arguments, compares,
-                 makes_all, tells_unwritten):
+    for test in (accepts_words, accepts_versions, gives_words, accepts_limits, refuses, refuses_together, refuses_each_line, refuses_files,
+                 takes_arguments, compares, makes_all, tells_unwritten):
         test(room)
 print(f'samples/make.py: {len(WORDS)} words as the paper says, {len(refusals())} refusals')

@@ -1,6 +1,7 @@
-"""Paper 01, and Items 1, 2, 4, 5 and 6 of paper 02, in plain Python, written from the papers and source document 002 alone.
+"""Paper 01, and Items 1, 2 and 4 to 7 of paper 02, in plain Python, written from the papers and source document 002 alone.
 
 It is the second opinion from which the expected outputs of the tests are made; it shares no table with the Rattle code."""
+import functools
 
 # ---- the rows, as the paper lists them
 
@@ -200,6 +201,7 @@ def assigned(row):
     return mask
 
 
+@functools.lru_cache(maxsize=None)
 def read(data):
     """('read', row number) or ('refused', number, place), for bytes."""
     if len(data) != 8:
@@ -250,41 +252,61 @@ def word(row, page=0, flow=0, register=0, mask=3, sources=(ENTRY_0,) * 4, fields
 def row_number(name):
     return [r['name'] for r in ROWS].index(name)
 
+# ---- halves of registers (paper 02, Item 7)
+
+# A set of halves is a number: bit r is the low half of register r, bit 64 + r its high half. So a set of version 1, which stands for both
+# halves of each register, is a number times BOTH.
+BOTH = 1 | 1 << 64
+LOW = (1 << 64) - 1
+
+
+def members_of(registers):
+    """The set of what a list names: a register, as 2, or a half, as '2L' or '2H'."""
+    found = 0
+    for name in registers:
+        half = {'L': 1, 'H': 1 << 64}.get(str(name)[-1])
+        found |= BOTH << int(name) if half is None else half << int(name[:-1])
+    return found
+
+
+def low_and_high(registers):
+    """The same as two sets of 64."""
+    return members_of(registers) & LOW, members_of(registers) >> 64
+
+
+def registers_in(s):
+    """The registers of which both halves are in a set, those of which only the low half is, and those of which only the high half is."""
+    low, high = s & LOW, s >> 64
+    return [[r for r in range(64) if part >> r & 1] for part in (low & high, low & ~high, high & ~low)]
+
+
+def lowest(missing):
+    """The lowest register of which a half is in the set, and which half: the low one if that is."""
+    register, half = min((k % 64, k // 64) for k in range(128) if missing >> k & 1)
+    return register, 'LH'[half]
+
+
+NO_REGISTER = (64, '')
+
+
 # ---- parcels
 
-
-def source_count(k):
-    return ROWS[k]['sources']
-
-
-def effect(w):
-    """Registers read, released and fully written, successors' rule, of a word that reads: reads, releases, writes, ends, branch offset."""
-    _, k = read(w.to_bytes(8, 'little'))
-    row = ROWS[k]
-    reads, releases, writes = set(), set(), set()
-    for j in range(row['sources']):
-        b = bits(w, 8 * j, 8)
-        if b < 128:
-            reads.add(b % 64)
-        if 64 <= b < 128:
-            releases.add(b - 64)
-    if row['destination'] and bits(w, 46, 2) == 3:
-        writes.add(bits(w, 40, 6))
-    offset = None
-    if row['offset']:
-        offset = bits(w, 8, 27)
-        offset -= (offset >> 26) << 27
-    return reads, releases, writes, bits(w, 59, 4) == 15, offset
+# By version: the length of the header, that of a note, and the most instructions. A header ends with the entry set, which like a note is one
+# set, for both halves, or two: the low halves, then the high ones.
+FORMATS = {1: (16, 8, 2048), 2: (24, 16, 2048)}
 
 
-def successors(w, i):
-    """Where instruction i, a word that reads, can go on: the fall-through, then the branch target."""
-    *_, ends, offset = effect(w)
-    return [] if ends else [i + 1] if offset is None else [i + 1, i + 1 + offset]
+def version_of(data):
+    return int.from_bytes(data[3:5], 'little')
 
 
-def members(s):
-    return {r for r in range(64) if s >> r & 1}
+def format_of(version):
+    """Where it is no version that we know, that of version 1: the view of a word goes by it (paper 01, 14)."""
+    return FORMATS.get(version, FORMATS[1])
+
+
+def count_in(data):
+    return int.from_bytes(data[6:8], 'little')
 
 
 def opening(data):
@@ -293,61 +315,115 @@ def opening(data):
         return 12
     if data[:3] != b'VSP':
         return 10
-    if int.from_bytes(data[3:5], 'little') != 1:
+    if version_of(data) not in FORMATS:
         return 11
     if data[5] != 0:
         return 13
-    n = int.from_bytes(data[6:8], 'little')
-    if not 1 <= n <= 2048 or len(data) != 16 + 16 * n:
+    n, (header, note, most) = count_in(data), FORMATS[version_of(data)]
+    if not 1 <= n <= most or len(data) != header + (8 + note) * n:
         return 12
     return None
 
 
-def numbers_in(data):
-    return [int.from_bytes(data[i:i + 8], 'little') for i in range(0, len(data), 8)]
+def word_at(data, n, i):
+    """The word at an index of bytes that are said to have n instructions, or None, which is refusal 14."""
+    start = format_of(version_of(data))[0] + 8 * i
+    return int.from_bytes(data[start:start + 8], 'little') if i < n and start + 8 <= len(data) else None
+
+
+def notes_part(data):
+    """The part of a parcel's bytes that has its notes; empty where it does not open."""
+    header, note, _ = format_of(version_of(data))
+    start = header + 8 * count_in(data)
+    return b'' if opening(data) else data[start:start + note * count_in(data)]
+
+
+def numbers_in(data, length=8):
+    return [int.from_bytes(data[i:i + length], 'little') for i in range(0, len(data), length)]
+
+
+def sets_in(data, version):
+    """The sets of halves in bytes that have nothing else."""
+    _, length, _ = FORMATS[version]
+    return [s * BOTH if length == 8 else s for s in numbers_in(data, length)]
 
 
 def parts(data):
-    """The entry set, the words and the notes of a parcel that opens, as numbers."""
-    n = int.from_bytes(data[6:8], 'little')
-    entry, *rest = numbers_in(data[8:])
-    return entry, rest[:n], rest[n:]
+    """The entry set, the words and the notes of a parcel that opens; sets are sets of halves."""
+    version = version_of(data)
+    header, _, _ = FORMATS[version]
+    [entry] = sets_in(data[8:header], version)
+    return entry, numbers_in(data[header:header + 8 * count_in(data)]), sets_in(notes_part(data), version)
 
 
 def unreadable(words):
-    """Number, place, index and register of the lowest word that does not read, or None."""
+    """Number, place, index and no register of the lowest word that does not read, or None."""
     for i, w in enumerate(words):
         result = read(w.to_bytes(8, 'little'))
         if result[0] == 'refused':
-            return result[1], result[2], i, 64
+            return result[1], result[2], i, *NO_REGISTER
     return None
 
 
 def misfit(data):
-    """None where a parcel opens and all its words read, else number, place, index, register."""
+    """None where a parcel opens and all its words read, else number, place, index, register, half."""
     number = opening(data)
-    return unreadable(parts(data)[1]) if number is None else (number, 0, 0, 64)
+    return unreadable(parts(data)[1]) if number is None else (number, 0, 0, *NO_REGISTER)
+
+
+def effect(w, version):
+    """The halves that a word that reads needs, those that it drops, and those that it fills. In version 1 a write of one half fills nothing."""
+    _, k = read(w.to_bytes(8, 'little'))
+    row = ROWS[k]
+    needs = drops = fills = 0
+    for j in range(row['sources']):
+        b = bits(w, 8 * j, 8)
+        if b < 128:
+            needs |= BOTH << b % 64
+        if 64 <= b < 128:
+            drops |= BOTH << b - 64
+    if row['destination']:
+        low, high = bits(w, 46, 1), bits(w, 47, 1)
+        if version == 1:
+            low = high = low & high
+        fills = (low | high << 64) << bits(w, 40, 6)
+    return needs, drops, fills
+
+
+def way(w):
+    """Whether a word that reads ends the program, and its branch offset or None."""
+    _, k = read(w.to_bytes(8, 'little'))
+    offset = None
+    if ROWS[k]['offset']:
+        offset = bits(w, 8, 27)
+        offset -= (offset >> 26) << 27
+    return bits(w, 59, 4) == 15, offset
+
+
+def successors(w, i):
+    """Where instruction i, a word that reads, can go on: the fall-through, then the branch target."""
+    ends, offset = way(w)
+    return [] if ends else [i + 1] if offset is None else [i + 1, i + 1 + offset]
 
 
 def check(data):
-    """None where accepted, else number, place, index, register."""
+    """None where accepted, else number, place, index, register, half."""
     refused = misfit(data)
     if refused is not None:
         return refused
     entry, words, notes = parts(data)
-    n, entry, notes = len(words), members(entry), [members(note) for note in notes]
-    if notes[0] - entry:
-        return 23, 0, 0, min(notes[0] - entry)
+    if notes[0] & ~entry:
+        return 23, 0, 0, *lowest(notes[0] & ~entry)
     for i, w in enumerate(words):
-        reads, releases, writes, _, _ = effect(w)
-        if reads - notes[i]:
-            return 20, 0, i, min(reads - notes[i])
-        held = notes[i] - releases | writes
+        needs, drops, fills = effect(w, version_of(data))
+        if needs & ~notes[i]:
+            return 20, 0, i, *lowest(needs & ~notes[i])
+        held = notes[i] & ~drops | fills
         for j in successors(w, i):
-            if not 0 <= j < n:
-                return 21, 0, i, 64
-            if notes[j] - held:
-                return 22, 0, i, min(notes[j] - held)
+            if not 0 <= j < len(words):
+                return 21, 0, i, *NO_REGISTER
+            if notes[j] & ~held:
+                return 22, 0, i, *lowest(notes[j] & ~held)
     return None
 
 
@@ -356,9 +432,9 @@ def name_of(w):
     return ROWS[read(w.to_bytes(8, 'little'))[1]]['name']
 
 
-def verdict_line(number, place, index, register):
-    """The place is told of a word that does not read (paper 02, Item 5)."""
-    return f'REFUSED {number:02d} {index:04d} {register:02d}' + (f' {place:02d}' if 2 <= number <= 7 else '')
+def verdict_line(number, place, index, register, half):
+    """The place is told of a word that does not read (paper 02, Item 5), the half after a register below 64 (Item 7)."""
+    return f'REFUSED {number:02d} {index:04d} {register:02d}{half}' + (f' {place:02d}' if 2 <= number <= 7 else '')
 
 
 def listing(data):
@@ -371,61 +447,83 @@ def listing(data):
     return ''.join(line + '\n' for line in lines)
 
 
-def members_of(registers):
-    return sum(1 << r for r in registers)
+def set_bytes(s, version):
+    """A set of halves as a parcel has it: in version 1 the registers whose low half is in it."""
+    length = format_of(version)[1]
+    return (s & (1 << 8 * length) - 1).to_bytes(length, 'little')
 
 
-def parcel(words, notes, entry, mark=b'VSP', version=1, zero=0, n=None):
-    """A parcel of words (numbers) and notes (lists of registers), as it is asked for, right or wrong."""
+def parcel_of(words, notes, entry, mark=b'VSP', version=1, zero=0, n=None):
+    """A parcel of words, notes and an entry set, which are sets of halves, as it is asked for, right or wrong."""
     n = len(words) if n is None else n
-    head = mark + version.to_bytes(2, 'little') + bytes([zero]) + n.to_bytes(2, 'little') + members_of(entry).to_bytes(8, 'little')
-    return head + b''.join(w.to_bytes(8, 'little') for w in words) + b''.join(members_of(s).to_bytes(8, 'little') for s in notes)
+    head = mark + version.to_bytes(2, 'little') + bytes([zero]) + n.to_bytes(2, 'little') + set_bytes(entry, version)
+    return head + b''.join(w.to_bytes(8, 'little') for w in words) + b''.join(set_bytes(note, version) for note in notes)
 
 
-def pack(entry, words, notes, out):
-    """Packing an entry set, the words' bytes and the notes' into a buffer: the number of the refusal or None, and the buffer afterwards."""
-    n = len(words) // 8
-    if not 1 <= n <= 2048 or len(words) != 8 * n or len(notes) != 8 * n or len(out) != 16 + 16 * n:
+def parcel(words, notes, entry, **others):
+    """The same of notes and an entry set that are lists, as for members_of."""
+    return parcel_of(words, [members_of(note) for note in notes], members_of(entry), **others)
+
+
+def halved(words, notes, entry, **others):
+    """The same of version 2."""
+    return parcel(words, notes, entry, version=2, **others)
+
+
+def versioned(data, version):
+    """The same bytes with another version."""
+    return data[:3] + version.to_bytes(2, 'little') + data[5:]
+
+
+def pack(version, entry, words, notes, out):
+    """Packing an entry set, the words' bytes and the notes' into a buffer, for a version that we know: the number of the refusal or None, and
+    the buffer afterwards."""
+    n, (header, note, most) = len(words) // 8, FORMATS[version]
+    if not 1 <= n <= most or len(words) != 8 * n or len(notes) != note * n or len(out) != header + (8 + note) * n:
         return 12, out
-    return None, b'VSP' + (1).to_bytes(2, 'little') + bytes(1) + n.to_bytes(2, 'little') + entry.to_bytes(8, 'little') + words + notes
+    return None, parcel_of(numbers_in(words), sets_in(notes, version), entry, version=version)
 
 
-# ---- the maker (paper 02, Item 1)
+# ---- the maker (paper 02, Items 1 and 7)
 
 
-def swept(words, entry):
-    """The sweeps that it takes, the last, unchanging one included, and the notes then; words that read, an entry set, notes: numbers."""
+def swept(version, words, entry):
+    """The sweeps that it takes, the last, unchanging one included, and the notes then; words that read, sets of halves."""
     n = len(words)
-    changes = [(members_of(releases), members_of(writes)) for _, releases, writes, _, _ in map(effect, words)]
+    changes = [effect(w, version)[1:] for w in words]
     arrivals = [(i, j) for i, w in enumerate(words) for j in successors(w, i) if 0 <= j < n]
-    old, notes, sweeps = None, [entry] + [(1 << 64) - 1] * (n - 1), 0
+    old, notes, sweeps = None, [entry] + [LOW * BOTH] * (n - 1), 0
     while notes != old:
         old, notes, sweeps = notes, notes[:], sweeps + 1
-        left = [note & ~releases | writes for note, (releases, writes) in zip(old, changes)]
+        left = [note & ~drops | fills for note, (drops, fills) in zip(old, changes)]
         for i, j in arrivals:
             notes[j] &= left[i]
     return sweeps, notes
 
 
-def infer(data, entry):
-    """For the words' bytes and the entry set's registers: ('notes', sweeps, parcel) or ('refused', number, place, index, register)."""
+def infer(version, data, low, high):
+    """For a version, the words' bytes and the entry sets of low and of high halves: ('notes', sweeps, parcel) or ('refused', number, place,
+    index, register, half). In version 1 the low set is the entry set, and the high one plays no part."""
+    if version not in FORMATS:
+        return 'refused', 11, 0, 0, *NO_REGISTER
     words = numbers_in(data)
-    if len(data) % 8 or not 1 <= len(words) <= 2048:
-        return 'refused', 12, 0, 0, 64
+    if len(data) % 8 or not 1 <= len(words) <= FORMATS[version][2]:
+        return 'refused', 12, 0, 0, *NO_REGISTER
     refused = unreadable(words)
     if refused is not None:
         return 'refused', *refused
-    sweeps, notes = swept(words, members_of(entry))
-    made = parcel(words, [members(note) for note in notes], entry)
+    entry = low * BOTH if version == 1 else low | high << 64
+    sweeps, notes = swept(version, words, entry)
+    made = parcel_of(words, notes, entry, version=version)
     # the notes contain every acceptable set, so where they are refused none is accepted
-    return ('notes', sweeps, made) if check(made) is None else ('refused', 24, 0, 0, 64)
+    return ('notes', sweeps, made) if check(made) is None else ('refused', 24, 0, 0, *NO_REGISTER)
 
 
-# ---- comparing (paper 02, Item 4)
+# ---- comparing (paper 02, Items 4 and 7)
 
 # In the paper's order; a modifier is named by its lowest bit.
 FIELDS = ['row', 'page', 'flow', 'destination', *(f'source {j}' for j in range(4)), *(f'modifier {low:02d}' for low in range(64))]
-DIGITS = {'page': 1, 'flow': 1, 'destination': 2, 'source': 2, 'modifier': 1, 'modifier 08': 7, 'entry': 16, 'note': 16}
+DIGITS = {'version': 1, 'page': 1, 'flow': 1, 'destination': 2, 'source': 2, 'modifier': 1, 'modifier 08': 7, 'entry': 16, 'note': 16}
 
 
 def contents(w):
@@ -451,21 +549,29 @@ def changes(w, w2):
     return [(field, left, right) for field, left, right in pairs if left != right]
 
 
+def set_changes(index, what, left, right, whole):
+    """The lines for two sets: one where registers are whole, else one for the low halves and one for the high ones."""
+    names = [(what, 0)] if whole else [(f'{what} low', 0), (f'{what} high', 64)]
+    pairs = [(name, left >> shift & LOW, right >> shift & LOW) for name, shift in names]
+    return [(index, name, before, after) for name, before, after in pairs if before != after]
+
+
 def differences(first, second):
-    """For the bytes of two parcels ('refused', which, number, place, index, register), or ('list', lines). A line is the index, None for the entry
-    sets; what differs; and both contents, None where a parcel has no such instruction."""
+    """For the bytes of two parcels ('refused', which, number, place, index, register, half), or ('list', lines). A line is the index, None for
+    the versions and the entry sets; what differs; and both contents, None where a parcel has no such instruction."""
     for which, data in (('first', first), ('second', second)):
         refused = misfit(data)
         if refused is not None:
             return 'refused', which, *refused
     (entry, words, notes), (entry2, words2, notes2) = parts(first), parts(second)
-    lines = [(i, *change) for i, pair in enumerate(zip(words, words2)) for change in changes(*pair)]
+    version, version2 = version_of(first), version_of(second)
+    whole = version == version2 == 1
+    lines = [(None, 'version', version, version2)] if version != version2 else []
+    lines += [(i, *change) for i, pair in enumerate(zip(words, words2)) for change in changes(*pair)]
     lines += [(i, 'added', None, w) for i, w in enumerate(words2) if i >= len(words)]
     lines += [(i, 'removed', w, None) for i, w in enumerate(words) if i >= len(words2)]
-    lines += [(None, 'entry', entry, entry2)] if entry != entry2 else []
-    shared = min(len(words), len(words2))
-    lines += [(i, 'note', notes[i], notes2[i]) for i in range(shared) if notes[i] != notes2[i]]
-    return 'list', lines
+    lines += set_changes(None, 'entry', entry, entry2, whole)
+    return 'list', lines + [line for i, pair in enumerate(zip(notes, notes2)) for line in set_changes(i, 'note', *pair, whole)]
 
 
 def difference_text(index, what, left, right):

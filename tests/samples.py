@@ -1,6 +1,6 @@
 """What must come of each sample, worked out from the papers: samples.py FOLDER writes there NAME.out, what the lister must write for
-NAME.vsp; NAME-show.out and .err, what show writes for it; for NAME.words the files NAME-words.entry, .out and .err, as maker.py does; and
-NAME-diff.status, .out and .err, what comes of comparing approved.vsp with NAME.vsp.
+NAME.vsp; NAME-show.out and .err, what show writes for it; for words the files NAME-words.options, .entry, .out and .err, as maker.py does;
+NAME-diff.status, .out and .err, what comes of comparing approved.vsp with NAME.vsp, and versions-diff, of comparing whole.vsp with halves.vsp.
 
 The text beside each sample must have what show writes, and the text of each word that it explains; it must name the sweeps or the refusal; where
 it is there to be compared, it must have the list and name the summary. The verdicts are those that the samples are there for."""
@@ -9,20 +9,23 @@ import re
 import sys
 import front
 from disassembly import column, shown
-from paper01 import infer, listing, parts
+from paper01 import infer, listing, low_and_high, parts
 
 folder = os.path.join(os.path.dirname(os.path.abspath(__file__)), '..', 'samples')
-verdicts = {'approved': 'ACCEPTED', 'unfilled': 'REFUSED 20 0003 05', 'lying': 'REFUSED 22 0002 05', 'stray': 'REFUSED 03 0002 64 08', 'loop': 'ACCEPTED',
-            'trusting': 'ACCEPTED', 'inferred': 'ACCEPTED', 'special': 'ACCEPTED', 'sloped': 'ACCEPTED', 'inserted': 'ACCEPTED',
-            'shortened': 'ACCEPTED', 'omitted': 'REFUSED 02 0003 64 00'}
-# The entry set, and what the text says. Where notes are made, the parcel is the sample's own.
-noted = {'approved': ([0, 1], '5 sweeps'), 'inferred': ([0, 1], '6 sweeps'), 'unfilled': ([0, 1], '`REFUSED 24 0000 64`')}
-# What is to be compared with the approved program, the text that says so, and what of standard error it names.
-compared = {'approved': ('diff', 'vsp: nothing differs: the two parcels are the same, byte for byte'),
-            'sloped': ('sloped', 'vsp: 1 of 5 instructions differs'),
-            'inserted': ('inserted', 'vsp: 4 of the 5 instructions that both have differ; 1 added; the notes of 2 differ'),
-            'shortened': ('shortened', 'vsp: 3 of the 4 instructions that both have differ; 1 removed; the entry sets differ'),
-            'stray': ('diff', 'REFUSED 03 0002 64 08')}
+verdicts = {'approved': 'ACCEPTED', 'unfilled': 'REFUSED 20 0003 05L', 'lying': 'REFUSED 22 0002 05L', 'stray': 'REFUSED 03 0002 64 08',
+            'loop': 'ACCEPTED', 'trusting': 'ACCEPTED', 'inferred': 'ACCEPTED', 'special': 'ACCEPTED', 'sloped': 'ACCEPTED', 'inserted': 'ACCEPTED',
+            'shortened': 'ACCEPTED', 'omitted': 'REFUSED 02 0003 64 00', 'halves': 'ACCEPTED', 'whole': 'REFUSED 22 0001 01L'}
+# By the sample whose text says it: the words, the version, the entry set, and what it says. Where notes are made, the parcel is that sample.
+noted = {'approved': ('approved', 1, [0, 1], '5 sweeps'), 'inferred': ('inferred', 1, [0, 1], '6 sweeps'),
+         'unfilled': ('unfilled', 1, [0, 1], '`REFUSED 24 0000 64`'), 'halves': ('halves', 2, [0], '4 sweeps'),
+         'whole': ('halves', 1, [0], '`REFUSED 24 0000 64`')}
+# What is to be compared with what, the text that says so, and what of standard error it names.
+compared = {('approved', 'approved'): ('diff', 'vsp: nothing differs: the two parcels are the same, byte for byte'),
+            ('approved', 'sloped'): ('sloped', 'vsp: 1 of 5 instructions differs'),
+            ('approved', 'inserted'): ('inserted', 'vsp: 4 of the 5 instructions that both have differ; 1 added; the notes of 2 differ'),
+            ('approved', 'shortened'): ('shortened', 'vsp: 3 of the 4 instructions that both have differ; 1 removed; the entry sets differ'),
+            ('approved', 'stray'): ('diff', 'REFUSED 03 0002 64 08'),
+            ('whole', 'halves'): ('halves', 'vsp: the versions differ; the note of 1 instruction differs')}
 
 
 def stored(name):
@@ -35,6 +38,11 @@ def write(name, data):
         f.write(data)
 
 
+def write_diff(name, *pair):
+    files = [f'samples/{file}.vsp' for file in pair]
+    front.write_comparison(sys.argv[1], name + '-diff', *(stored(file + '.vsp') for file in pair), files)
+
+
 def names(ending):
     return {f[:-len(ending)] for f in os.listdir(folder) if f.endswith(ending)}
 
@@ -45,8 +53,18 @@ def blocks(name):
     return {line.partition('`')[2].partition('`')[0]: re.sub('^    ', '', block, flags=re.M) for line, block in found}
 
 
-def diff_of(name):
-    return f'./vsp diff samples/approved.vsp samples/{name}.vsp'
+def diff_of(pair):
+    return './vsp diff samples/%s.vsp samples/%s.vsp' % pair
+
+
+def comparison(pair):
+    """The status of the comparison, the list, and standard error."""
+    return front.comparison(*(stored(name + '.vsp') for name in pair), pair)
+
+
+def notes_call(words, version, entry):
+    option = '' if version == 1 else f'--version {version} '
+    return f'./vsp notes {option}samples/{words}.words ' + ','.join(f'r{r}' for r in entry)
 
 
 def commands(name):
@@ -55,8 +73,7 @@ def commands(name):
     due = {'./vsp show': shown(data)}
     if name in ('approved', 'stray'):
         due['./vsp list'] = listing(data)
-    if compared.get(name, ('',))[0] == name:
-        due[diff_of(name)] = front.comparison(stored('approved.vsp'), data, ['approved', name])[1]
+    due.update((diff_of(pair), comparison(pair)[1]) for pair, (about, _) in compared.items() if about == name)
     return due
 
 
@@ -78,7 +95,7 @@ def readme_shows():
 
 
 readme_shows()
-assert names('.vsp') == set(verdicts) and names('.words') == set(noted), (names('.vsp'), names('.words'))
+assert names('.vsp') == set(verdicts) and names('.words') == {words for words, *_ in noted.values()}, (names('.vsp'), names('.words'))
 for name, verdict in verdicts.items():
     expected = listing(stored(name + '.vsp'))
     assert expected.endswith(verdict + '\n'), (name, expected)
@@ -87,20 +104,21 @@ for name, verdict in verdicts.items():
     write(name + '.out', expected.encode())
     write(name + '-show.out', shown(stored(name + '.vsp')).encode())
     write(name + '-show.err', b'')
-    files = [f'samples/{file}.vsp' for file in ('approved', name)]
-    front.write_comparison(sys.argv[1], name + '-diff', stored('approved.vsp'), stored(name + '.vsp'), files)
-for name, (entry, told) in noted.items():
-    words, text = stored(name + '.words'), stored(name + '.txt').decode()
-    result = infer(words, entry)
-    said = front.answer(words, result)
-    assert told in text and told.strip('`') in said, (name, said)
+    write_diff(name, 'approved', name)
+write_diff('versions', 'whole', 'halves')
+for name, (words, version, entry, told) in noted.items():
+    data, text = stored(words + '.words'), stored(name + '.txt').decode()
+    result = infer(version, data, *low_and_high(entry))
+    said = front.answer(version, data, result)
+    assert f'`{notes_call(words, version, entry)}`' in text.replace('\n', ' ') and told in text and told.strip('`') in said, (name, said)
     assert result[0] == 'refused' or result[2] == stored(name + '.vsp'), name
+    write(name + '-words.options', b'' if version == 1 else f'--version {version}'.encode())
     write(name + '-words.entry', ','.join(f'r{r}' for r in entry).encode())
     write(name + '-words.out', result[2] if result[0] == 'notes' else b'')
     write(name + '-words.err', said.encode())
-for name, (about, told) in compared.items():
+for pair, (about, told) in compared.items():
     text = stored(about + '.txt').decode()
-    status, said, error = front.comparison(stored('approved.vsp'), stored(name + '.vsp'), ['approved', name])
-    assert f'`{diff_of(name)}` prints' in text and f'ends with status {status}' in text, (name, status)
-    assert f'`{told}`' in text and told in error, (name, error)
-    assert blocks(about).get(diff_of(name), '') == said, (name, said)
+    status, said, error = comparison(pair)
+    assert f'`{diff_of(pair)}` prints' in text and f'ends with status {status}' in text, (pair, status)
+    assert f'`{told}`' in text and told in error, (pair, error)
+    assert blocks(about).get(diff_of(pair), '') == said, (pair, said)

@@ -13,8 +13,8 @@ import subprocess
 import sys
 import front
 from differ import bit_flipped, on_r0, random_word
-from disassembly import left_out, shown, text, text_of
-from paper01 import R0, ROWS, infer, opening, parcel, read, row_number, word
+from disassembly import left_out, registers, shown, text, text_of
+from paper01 import FORMATS, LOW, R0, ROWS, halved, infer, members_of, opening, parcel, read, row_number, version_of, versioned, word
 
 ALL = range(64)
 A = 0x0091C10000000002  # MOV r1, r2
@@ -29,8 +29,8 @@ def branch(offset, source=0xC0, flow=0):
     return word(row_number('BRANCHZ'), flow=flow, sources=(source,), offset=offset)
 
 
-def mov(register, source, flow=0):
-    return word(row_number('MOV.i32'), flow=flow, register=register, sources=(source,))
+def mov(register, source, flow=0, mask=3):
+    return word(row_number('MOV.i32'), flow=flow, register=register, mask=mask, sources=(source,))
 
 
 # ---- texts
@@ -92,8 +92,9 @@ def holds_in_names():
 
 # ---- the stored parcel: Mesa's words, branches, and words that do not read; notes of many shapes
 
-# No set is longer than this one.
+# No set of whole registers is longer than this one, and none of halves than that.
 TWOS = [r for r in ALL if r % 3 != 2]
+TURNS = [f'{r}{"LH"[r % 2]}' for r in ALL]
 SHAPES = [[], [0], [63], ALL, [0, 63], [0, 1], [62, 63], range(63), range(1, 64), range(0, 64, 2), range(1, 64, 2), TWOS, [0, 1, 2, 3, 5], [9, 10, 11, 20]]
 UNREADABLE = [FMA, 0x0091C10000010002, 0x00A0C00000000201, 0x00F8C00002020100, 0x00B4C00000030201, 1 << 63, 0x5891C10000000002, 0x0091010000000002,
               0x00F0C00600020100, word(row_number('FLUSH.f32'), sources=R0, fields={8: 3}), 0x0091C100000000E0, word(row_number('CSEL.f32'), sources=(0, 1, 2, 225))]
@@ -106,6 +107,26 @@ def note(i):
 def plain(words):
     """A parcel with notes of many shapes."""
     return parcel(words, [note(i) for i in range(len(words))], [0, 1, 2, 3, 5, 63])
+
+
+def halves(low, high):
+    return [f'{r}L' for r in low] + [f'{r}H' for r in high]
+
+
+def plain2(words):
+    """The same of version 2: each shape of the low halves with each of the high ones."""
+    return halved(words, [halves(note(i), note(i // 15)) for i in range(len(words))], [0, 1, 2, '3L', '5L', '6L', '7L', '4H', '5H', '8H', '63H'])
+
+
+def holds_in_sets():
+    """Sets of halves: the registers in order, in rows where they have the same halves."""
+    for names, said in (
+        ([], 'none'), ([2], 'r2'), (['2L'], 'r2L'), (['2H'], 'r2H'), (['2H', '2L'], 'r2'), (ALL, 'r0-r63'), (halves(ALL, []), 'r0L-r63L'),
+        (halves([], ALL), 'r0H-r63H'), ([0, 1, 2, 3, 5, '6L', '7L', '8L', '9H'], 'r0-r3,r5,r6L-r8L,r9H'), (['0H', '1L', 2], 'r0H,r1L,r2'),
+        (['0L', 1, '2L', '3L', '4H', 5, '6H', '7H'], 'r0L,r1,r2L-r3L,r4H,r5,r6H-r7H'), (['62L', '63L', '62H'], 'r62,r63L'),
+    ):
+        assert registers(members_of(names)) == said, (names, said, registers(members_of(names)))
+    assert len(registers(members_of(TURNS))) == 309 and registers(members_of(TURNS)).startswith('r0L,r1H,') and len(registers(members_of(TWOS))) == 164
 
 
 stored = plain([*MESA, branch(3 - 309), branch(323 - 310), branch(7 - 311, flow=15), branch(-1 - 312), *UNREADABLE])
@@ -154,11 +175,11 @@ def stored_output():
 # ---- parcels
 
 
-def longest():
+def longest(make, note):
     """The longest lines that there are where all words read, and as many as there can be."""
     w = word(row_number('FCMP_AND.v2f16'), page=1, flow=10, register=63, mask=2, sources=(231, 231, 231),
              fields={26: 3, 28: 3, 30: 3, 32: 7, **{low: 1 for low in range(36, 40)}})
-    return parcel([w] * 2048, [TWOS] * 2048, TWOS)
+    return make([w] * 2048, [note] * 2048, note)
 
 
 # The parcel, and what is written; None where that is not plain.
@@ -247,18 +268,113 @@ REFUSED with 2: instruction 0 is no legal instruction, so the program was not ju
 """),
     'empty': (b'', 'REFUSED with 12: the count of instructions or the length is wrong.\n'),
     'wrong-mark': (b'VSQ' + bytes(13), 'REFUSED with 10: this is no parcel, since it does not begin with VSP.\n'),
-    'wrong-version': (parcel([B], [[]], [], version=2), 'REFUSED with 11: the version of the parcel is not 1.\n'),
+    'wrong-version': (parcel([B], [[]], [], version=3), 'REFUSED with 11: the version of the parcel is neither 1 nor 2.\n'),
     'wrong-byte-5': (parcel([B], [[]], [], zero=1), 'REFUSED with 13: byte 5 of the parcel is not 0.\n'),
-    'far-too-long': (longest() + bytes(100000), 'REFUSED with 12: the count of instructions or the length is wrong.\n'),
+    'far-too-long': (longest(parcel, TWOS) + bytes(100000), 'REFUSED with 12: the count of instructions or the length is wrong.\n'),
     'branches': (plain([branch(-1), branch(-2), branch(-3), branch(-4), branch(7, flow=15), branch(2), branch(2), B, branch(0), branch(-1)]), None),
     'branch-ends': (plain([branch(67108863), branch(-67108864), B]), None),
     'target-unreadable': (plain([branch(0), 1 << 63, branch(-2), B]), None),
     'lowest-register': (parcel([word(row_number('CSEL.f32'), flow=15, sources=(63, 9, 10, 8))], [[63]], ALL), None),
     'stored': (stored, None),
     'sets': (plain([NOP] * 90 + [B]), None),
-    'longest': (longest(), None),
+    'longest': (longest(parcel, TWOS), None),
     'most': (plain([mov(i % 64, i * 7 % 64) for i in range(2047)] + [B]), None),
 }
+
+# The same of version 2.
+halved_parcels = {
+    'halves': (halved([mov(1, 2, mask=1), mov(1, 64 + 2, mask=2), mov(0, 1, flow=15)], [[2], ['1L', 2], [1]], [2, '4L', '5L', '7H']), f"""\
+parcel version: 2
+instructions: 3
+filled before the start, by the parcel's own claim: r2,r4L-r5L,r7H
+
+       word              instruction         note
+ 0000  0091410000000002  MOV.i32 r1.h0, r2   r2
+ 0001  0091810000000042  MOV.i32 r1.h1, ^r2  r1L,r2
+ 0002  7891C00000000001  MOV.i32.end r0, r1  r1
+
+{ACCEPTED}"""),
+    'halves-refused-20': (halved([branch(1), mov(5, 1), mov(1, 1, flow=15)], [[1], [1], ['1L']], [1]), """\
+parcel version: 2
+instructions: 3
+filled before the start, by the parcel's own claim: r1
+
+       word              instruction                    note
+ 0000  001F0000000001C0  BRANCHZ 0x0, offset:1 -> 0002  r1
+ 0001  0091C50000000001  MOV.i32 r5, r1                 r1
+>0002  7891C10000000001  MOV.i32.end r1, r1             r1L
+                         ^ reads r1H, which its note does not name
+
+REFUSED with 20: instruction 2 reads r1H, which its note does not name.
+"""),
+    'halves-refused-20-low': (halved([A_END], [['1H', '2H']], ['1H', 2]), """\
+parcel version: 2
+instructions: 1
+filled before the start, by the parcel's own claim: r1H,r2
+
+       word              instruction         note
+ 0000  7891C10000000002  MOV.i32.end r1, r2  r1H-r2H
+                         ^ reads r2L, which its note does not name
+
+REFUSED with 20: instruction 0 reads r2L, which its note does not name.
+"""),
+    'halves-refused-21': (halved([A], [[2]], [2]), """\
+parcel version: 2
+instructions: 1
+filled before the start, by the parcel's own claim: r2
+
+       word              instruction     note
+ 0000  0091C10000000002  MOV.i32 r1, r2  r2
+                         ^ can go on to a place outside the program
+
+REFUSED with 21: instruction 0 can go on to a place outside the program.
+"""),
+    'halves-refused-22': (halved([mov(1, 2, mask=1), mov(0, 1, flow=15)], [[2], [1]], [2]), """\
+parcel version: 2
+instructions: 2
+filled before the start, by the parcel's own claim: r2
+
+       word              instruction         note
+ 0000  0091410000000002  MOV.i32 r1.h0, r2   r2
+                         ^ can go on to an instruction whose note names r1H, which by its own note it does not leave filled
+ 0001  7891C00000000001  MOV.i32.end r0, r1  r1
+
+REFUSED with 22: instruction 0 can go on to an instruction whose note names r1H, which by its own note it does not leave filled.
+"""),
+    'halves-refused-23': (halved([A_END], [[1, 2]], ['1H', 2]), """\
+parcel version: 2
+instructions: 1
+filled before the start, by the parcel's own claim: r1H,r2
+
+       word              instruction         note
+ 0000  7891C10000000002  MOV.i32.end r1, r2  r1-r2
+                         ^ has a note that names r1L, which the parcel does not say is filled before the start
+
+REFUSED with 23: instruction 0 has a note that names r1L, which the parcel does not say is filled before the start.
+"""),
+    'halves-refused-2': (halved([FMA, B], [[2, 3], []], [2, 3]), """\
+parcel version: 2
+instructions: 2
+filled before the start, by the parcel's own claim: r2-r3
+
+       word              instruction                                        note
+ 0000  00B2C20000038242  -- 2: no row fits; FMA.f32, left out by the scope  r2-r3
+                         ^ is no legal instruction, so the program was not judged
+ 0001  7800000000000000  NOP.end                                            none
+
+REFUSED with 2: instruction 0 is no legal instruction, so the program was not judged.
+"""),
+    'halves-wrong-byte-5': (halved([B], [[]], [], zero=1), 'REFUSED with 13: byte 5 of the parcel is not 0.\n'),
+    'halves-wrong-version': (versioned(halved([B], [[]], []), 3), 'REFUSED with 11: the version of the parcel is neither 1 nor 2.\n'),
+    'halves-wrong-length': (versioned(parcel([B], [[]], []), 2), 'REFUSED with 12: the count of instructions or the length is wrong.\n'),
+    'halves-far-too-long': (longest(halved, TURNS) + bytes(100000), 'REFUSED with 12: the count of instructions or the length is wrong.\n'),
+    'halves-branches': (plain2([branch(-1), branch(-2), branch(-3), branch(-4), branch(7, flow=15), branch(2), branch(2), B, branch(0), branch(-1)]), None),
+    'halves-stored': (plain2([*MESA, *UNREADABLE]), None),
+    'halves-sets': (plain2([NOP] * 239 + [B]), None),
+    'halves-longest': (longest(halved, TURNS), None),
+    'halves-most': (plain2([mov(i % 64, i * 7 % 64, mask=1 + i % 3) for i in range(2047)] + [B]), None),
+}
+parcels.update(halved_parcels)
 parcels.update((name, (data, None)) for name, data in front.parcels.items())
 
 
@@ -290,14 +406,22 @@ def every_opcode():
     return (opcode << 48 | 3 << 46 | second << 16 | second % 4 << 24 for opcode in range(512) for second in range(16))
 
 
+def random_set(draw, version):
+    """Many registers, or few; in version 2 also halves."""
+    share = draw.randrange(17)
+    names = [r for r in ALL if draw.randrange(16) > share]
+    return [draw.choice((r, r, f'{r}L', f'{r}H')) for r in names] if version == 2 else names
+
+
 def random_notes(draw, words):
     """The words with notes that are accepted, where there are such, or with any."""
+    version = draw.choice((1, 2))
     if draw.randrange(2):
         words = words[:-1] + [words[-1] | 15 << 59]
-        result = infer(b''.join(w.to_bytes(8, 'little') for w in words), ALL)
+        result = infer(version, b''.join(w.to_bytes(8, 'little') for w in words), LOW, LOW)
         if result[0] == 'notes':
             return result[2]
-    return parcel(words, [[r for r in ALL if draw.randrange(16) > at] for at in (draw.randrange(17) for _ in words)], draw.choice(([], ALL, [0, 1, 2])))
+    return parcel(words, [random_set(draw, version) for _ in words], draw.choice(([], ALL, [0, 1, 2])), version=version)
 
 
 def random_parcel(draw):
@@ -309,7 +433,7 @@ def random_parcel(draw):
     if kind == 0:
         return data[:draw.randrange(len(data) + 1)]
     # a bit, of the words or of anything
-    bit = draw.randrange(128, 128 + 64 * len(words)) if kind == 1 else draw.randrange(8 * len(data))
+    bit = 8 * FORMATS[version_of(data)][0] + draw.randrange(64 * len(words)) if kind == 1 else draw.randrange(8 * len(data))
     return bit_flipped(data, bit) if kind in (1, 2) else data
 
 
@@ -366,4 +490,5 @@ def main(arguments):
 holds_to_mesa()
 holds_in_records()
 holds_in_names()
+holds_in_sets()
 main(sys.argv[1:])

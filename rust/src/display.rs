@@ -1,6 +1,6 @@
 //! Instructions, refusals and verdicts in words.
 
-use crate::{Form, Inference, Refusal, Side, TEXT, Unread, Verdict, ascii, raw};
+use crate::{Form, Half, Inference, Refusal, Side, TEXT, Unread, Verdict, ascii, raw};
 use std::fmt::{Display, Formatter, Result};
 
 /// A refusal with all that is known of it.
@@ -9,8 +9,17 @@ struct Fault {
     place: u8,
     /// None where no program is at hand.
     index: Option<u16>,
-    register: u8,
+    blamed: Blamed,
 }
+
+/// A register, by its half where one is told, as `r2L`.
+struct Blamed {
+    register: u8,
+    half: Option<Half>,
+}
+
+/// No register is at fault.
+const NOBODY: Blamed = Blamed { register: 64, half: None };
 
 impl Display for Fault {
     fn fmt(&self, f: &mut Formatter) -> Result {
@@ -23,10 +32,21 @@ impl Display for Fault {
     }
 }
 
+impl Display for Blamed {
+    fn fmt(&self, f: &mut Formatter) -> Result {
+        let letter = match self.half {
+            None => "",
+            Some(Half::Low) => "L",
+            Some(Half::High) => "H",
+        };
+        write!(f, "r{}{letter}", self.register)
+    }
+}
+
 impl Fault {
     /// The meaning of the number, as `include/vsp.h` has it.
     fn reason(&self, f: &mut Formatter) -> Result {
-        let Fault { place, register, .. } = *self;
+        let Fault { place, ref blamed, .. } = *self;
         match self.number {
             1 => f.write_str("the word isn't 8 bytes long"),
             2 => f.write_str("the word is no instruction of the table"),
@@ -38,16 +58,19 @@ impl Fault {
             8 => f.write_str("the room to write a word to isn't 8 bytes long"),
             9 => f.write_str("the row has no room for a value of the form, or the offset is beyond its limits"),
             10 => f.write_str("the mark isn't VSP"),
-            11 => f.write_str("the version isn't 1"),
+            11 => f.write_str("the version is neither 1 nor 2"),
             12 => f.write_str("the count of instructions or the length is wrong"),
             13 => f.write_str("byte 5 isn't 0"),
-            20 => write!(f, "it reads r{register}, which its note doesn't name"),
+            20 => write!(f, "it reads {blamed}, which its note doesn't name"),
             21 => f.write_str("it can go on to a place outside the program"),
             22 => {
                 let what = "it can go on to an instruction whose note names";
-                write!(f, "{what} r{register}, which by its own note it doesn't leave filled")
+                write!(f, "{what} {blamed}, which by its own note it doesn't leave filled")
             }
-            23 => write!(f, "it has a note that names r{register}, which the parcel doesn't say is filled before the start"),
+            23 => {
+                let what = "which the parcel doesn't say is filled before the start";
+                write!(f, "it has a note that names {blamed}, {what}")
+            }
             24 => f.write_str("with these words and this entry set no notes at all would be accepted"),
             _ => f.write_str("this number is never given"),
         }
@@ -69,7 +92,7 @@ impl Display for Refusal {
         match number {
             // Of a word, or of a row in an instruction or on its own.
             2 => f.write_str("refused with 2: the word is no instruction of the table, or the row is above 76"),
-            _ => Fault { number, place, index: None, register: 64 }.fmt(f),
+            _ => Fault { number, place, index: None, blamed: NOBODY }.fmt(f),
         }
     }
 }
@@ -78,8 +101,8 @@ impl Display for Verdict {
     fn fmt(&self, f: &mut Formatter) -> Result {
         match *self {
             Verdict::Accepted => f.write_str("accepted"),
-            Verdict::Refused { number, place, index, register } => {
-                Fault { number, place, index: Some(index), register }.fmt(f)
+            Verdict::Refused { number, place, index, register, half } => {
+                Fault { number, place, index: Some(index), blamed: Blamed { register, half } }.fmt(f)
             }
         }
     }
@@ -92,8 +115,8 @@ impl Display for Inference {
             Inference::Refused { number: 12, .. } => {
                 f.write_str("refused with 12: the length of the words or of the room for notes is wrong")
             }
-            Inference::Refused { number, place, index, register } => {
-                Fault { number, place, index: Some(index), register }.fmt(f)
+            Inference::Refused { number, place, index, .. } => {
+                Fault { number, place, index: Some(index), blamed: NOBODY }.fmt(f)
             }
         }
     }
@@ -101,12 +124,12 @@ impl Display for Inference {
 
 impl Display for Unread {
     fn fmt(&self, f: &mut Formatter) -> Result {
-        let Unread { side, number, place, index, register } = *self;
+        let Unread { side, number, place, index, .. } = *self;
         let which = match side {
             Side::First => "first",
             Side::Second => "second",
         };
-        write!(f, "the {which} parcel is {}", Fault { number, place, index: Some(index), register })
+        write!(f, "the {which} parcel is {}", Fault { number, place, index: Some(index), blamed: NOBODY })
     }
 }
 

@@ -2,7 +2,8 @@
 //!
 //! A parcel has the words of a shader program, an entry set (the registers that it says are
 //! filled before the program starts) and notes (for each instruction the registers that it
-//! says are filled when the instruction is reached).
+//! says are filled when the instruction is reached). In a parcel of version 1 these are whole
+//! registers; in one of version 2 the low halves and the high halves are told apart.
 //!
 //! ```no_run
 //! let word = 0x0091_C100_0000_0002_u64.to_le_bytes();
@@ -24,8 +25,8 @@ pub const FORM: usize = 32;
 pub const TEXT: usize = 534;
 /// Room for the name of any row and the 0 byte after it.
 pub const NAME: usize = 19;
-/// No list of differences has more lines: 23 for each of 2048 instructions, and one.
-pub const DIFF_LINES: usize = 23 * 2048 + 1;
+/// No list of differences has more lines: 24 for each of 2048 instructions, and three.
+pub const DIFF_LINES: usize = 24 * 2048 + 3;
 
 /// The fields of an instruction. What its row has no place for is 0. [`text`] writes it out, as
 /// `Display` does.
@@ -56,8 +57,15 @@ pub struct Refusal {
     pub place: u8,
 }
 
+/// A half of a register.
+#[derive(Clone, Copy, Debug, PartialEq, Eq)]
+pub enum Half {
+    Low,
+    High,
+}
+
 /// The answer of [`check`], which says what an accepted parcel is and isn't. `Display` says it in
-/// words, as `refused with 20 at instruction 3: it reads r5, which its note doesn't name`.
+/// words, as `refused with 20 at instruction 3: it reads r5L, which its note doesn't name`.
 #[derive(Clone, Copy, Debug, PartialEq, Eq)]
 pub enum Verdict {
     Accepted,
@@ -67,8 +75,11 @@ pub enum Verdict {
         place: u8,
         /// The instruction at fault, 0 where the parcel doesn't open.
         index: u16,
-        /// The lowest register at fault, 64 where none is.
+        /// The lowest register of which a half is at fault, 64 where none is.
         register: u8,
+        /// The half of that register: the low one where it is at fault, else the high one; always
+        /// the low one in a parcel of version 1. None where no register is at fault.
+        half: Option<Half>,
     },
 }
 
@@ -94,6 +105,8 @@ pub enum Inference {
 /// What a line of the list of differences tells of.
 #[derive(Clone, Copy, Debug, PartialEq, Eq)]
 pub enum What {
+    /// The versions of the parcels.
+    Version,
     /// The contents are row numbers.
     Row,
     Page,
@@ -109,20 +122,20 @@ pub enum What {
     Added,
     /// An instruction that only the first parcel has; the contents are its word and 0.
     Removed,
-    /// The entry sets.
-    Entry,
-    /// The notes of an instruction that both have.
-    Note,
+    /// The entry sets: of registers, where both parcels are of version 1, else of these halves.
+    Entry(Option<Half>),
+    /// The notes of an instruction that both have, likewise.
+    Note(Option<Half>),
 }
 
 /// A line of the list of differences.
 #[derive(Clone, Copy, Debug, PartialEq, Eq)]
 pub struct Difference {
     pub what: What,
-    /// The instruction, 0 for the entry sets.
+    /// The instruction, 0 for versions and entry sets.
     pub index: u16,
-    /// What the first parcel has there: a row number, or the field's bits, 0 where its row has
-    /// no such field.
+    /// What the first parcel has there: a version, a row number, a set (bit r for register r, or
+    /// for this half of it), or the field's bits, 0 where its row has no such field.
     pub first: u64,
     /// What the second parcel has there.
     pub second: u64,
@@ -151,10 +164,15 @@ pub struct Unread {
 /// Opens a parcel, reads all its words and checks its notes.
 ///
 /// In an accepted parcel no instruction reads a register that isn't held, whichever way the
-/// program goes, and no way leaves the program. That holds if the display fills what the entry
-/// set names (bytes 8 to 15, little-endian, bit r for register r): the set is the parcel's own
-/// claim and is taken on trust, so compare it with what the display really fills. Accepted
-/// doesn't mean that the program computes the right thing, nor that it is the approved one.
+/// program goes, and no way leaves the program. In version 1 a register is held or not, and only
+/// a full write fills it; in version 2 each half is, a write fills the halves that it writes, and
+/// a read needs both.
+///
+/// That holds if the display fills what the entry set names: bytes 8 to 15, little-endian, bit r
+/// for register r; in version 2 bytes 8 to 15 for its low half and bytes 16 to 23 for its high
+/// half. The set is the parcel's own claim and is taken on trust, so compare it with what the
+/// display really fills. Accepted doesn't mean that the program computes the right thing, nor
+/// that it is the approved one.
 ///
 /// ```no_run
 /// # fn main() -> std::io::Result<()> {
@@ -173,24 +191,26 @@ pub fn check(parcel: &[u8]) -> Verdict {
         place: (code >> 8) as u8,
         index: (code >> 16) as u16,
         register: (code >> 32) as u8,
+        half: half((code >> 40) as u8),
     }
 }
 
-/// Makes notes for words that come without any. Words and notes are as in a parcel, 8 bytes
-/// for each instruction, so both have the same length. The entry set (bit r for register r) is
-/// the caller's to know: the words don't say what the display fills before it starts the
-/// program.
+/// Makes notes, for a parcel of this version, for words that come without any. Words and notes
+/// are as in a parcel: 8 bytes for each instruction, and for its note 8 in version 1 and 16 in
+/// version 2. The entry set is the caller's to know: the words don't say what the display fills
+/// before it starts the program. It is given as low halves and high halves, bit r for register r;
+/// in version 1 the low ones are the set, of whole registers, and the high ones play no part.
 ///
 /// Where notes are proposed the buffer is filled with them, and [`check`] accepts the parcel of
-/// this entry set, these words and these notes. They name all that any accepted notes name;
-/// where every instruction lies on some way through the program, just what is held whichever
-/// way the program comes there.
+/// this version, this entry set, these words and these notes. They name all that any accepted
+/// notes name; where every instruction lies on some way through the program, just what is held
+/// whichever way the program comes there.
 ///
-/// A refusal leaves the buffer as it was: 12 for the length of words or notes; 2 to 7 for the
-/// lowest word that isn't legal; 24 where no notes at all would be accepted. Takes some 120 KB
-/// of stack.
-pub fn infer(words: &[u8], entry: u64, notes: &mut [u8]) -> Inference {
-    let code = raw::infer(words, entry, notes);
+/// A refusal leaves the buffer as it was: 11 for a version that is neither 1 nor 2; 12 for the
+/// length of words or notes; 2 to 7 for the lowest word that isn't legal; 24 where no notes at all
+/// would be accepted. Takes some 180 KB of stack.
+pub fn infer(version: u64, words: &[u8], entry_low: u64, entry_high: u64, notes: &mut [u8]) -> Inference {
+    let code = raw::infer(version, words, entry_low, entry_high, notes);
     match code as u8 {
         0 => Inference::Proposed { sweeps: (code >> 16) as u16 },
         number => Inference::Refused {
@@ -271,14 +291,16 @@ pub fn difference(first: &[u8], second: &[u8], k: usize) -> Result<Option<Differ
 
 /// The list of what differs between two parcels, the approved one first.
 ///
-/// For each instruction that both have, in order, a line for each field that differs: row, page,
-/// flow, destination, sources, modifiers by lowest bit. Then the instructions that only the
-/// longer parcel has, then the entry sets if they differ, then the notes that differ of the
-/// instructions that both have. The list is empty exactly where the two have the same bytes.
+/// The versions, if they differ. For each instruction that both have, in order, a line for each
+/// field that differs: row, page, flow, destination, sources, modifiers by lowest bit. Then the
+/// instructions that only the longer parcel has, then the entry sets if they differ, then the
+/// notes that differ of the instructions that both have. A set has one line where both parcels
+/// are of version 1; else one for the low halves and one for the high halves, and a set of
+/// version 1 counts as both. The list is empty exactly where the two have the same bytes.
 ///
 /// Both parcels must open and all their words be legal; the first is looked at before the
 /// second. Notes are compared and not checked: an empty list doesn't mean that [`check`] accepts
-/// the parcels. Takes some 1.1 MB of heap while it runs.
+/// the parcels. Takes some 1.2 MB of heap while it runs.
 pub fn differences(first: &[u8], second: &[u8]) -> Result<Vec<Difference>, Unread> {
     let mut lines = vec![[0; 3]; DIFF_LINES];
     let buffer = lines.first_chunk_mut().expect("the buffer has this length");
@@ -296,6 +318,15 @@ fn unread(code: u64) -> Unread {
         place: (code >> 8) as u8,
         index: (code >> 16) as u16,
         register: (code >> 32) as u8,
+    }
+}
+
+/// As the C interface numbers the halves, 0 for none.
+fn half(number: u8) -> Option<Half> {
+    match number {
+        0 => None,
+        1 => Some(Half::Low),
+        _ => Some(Half::High),
     }
 }
 
@@ -324,8 +355,9 @@ impl Difference {
             5 => What::Modifier(which),
             6 => What::Added,
             7 => What::Removed,
-            8 => What::Entry,
-            _ => What::Note,
+            8 => What::Entry(half(which)),
+            9 => What::Note(half(which)),
+            _ => What::Version,
         };
         Difference { what, index: (head >> 16) as u16, first, second }
     }

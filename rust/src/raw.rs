@@ -18,7 +18,15 @@ unsafe extern "C" {
     fn vsp_text(form: *const u8, text: *mut u8) -> usize;
     fn vsp_name(row: usize, name: *mut u8) -> usize;
     fn vsp_row_of(opcode: u64, k: u64) -> u32;
-    fn vsp_infer(words: *const u8, length: usize, entry: u64, notes: *mut u8, notes_length: usize) -> u64;
+    fn vsp_infer(
+        version: u64,
+        words: *const u8,
+        length: usize,
+        entry_low: u64,
+        entry_high: u64,
+        notes: *mut u8,
+        notes_length: usize,
+    ) -> u64;
     fn vsp_diff_line(
         first: *const u8,
         first_length: usize,
@@ -36,7 +44,8 @@ unsafe extern "C" {
     ) -> u64;
 }
 
-/// 0, or number + 2^8 place + 2^16 index + 2^32 register.
+/// 0, or number + 2^8 place + 2^16 index + 2^32 register + 2^40 half, which is 1 for the low half
+/// of the register, 2 for the high one and 0 where no register is at fault.
 pub fn check(parcel: &[u8]) -> u64 {
     // SAFETY: the pointer is good for reading as many bytes as the length says.
     unsafe { vsp_check(parcel.as_ptr(), parcel.len()) }
@@ -82,9 +91,10 @@ pub fn row_of(opcode: u64, k: u64) -> u32 {
 
 /// 2^16 sweeps, or number + 2^8 place + 2^16 index + 2^32 register; then the notes keep their
 /// bytes.
-pub fn infer(words: &[u8], entry: u64, notes: &mut [u8]) -> u64 {
+pub fn infer(version: u64, words: &[u8], entry_low: u64, entry_high: u64, notes: &mut [u8]) -> u64 {
+    let (from, room) = (words.as_ptr(), notes.as_mut_ptr());
     // SAFETY: the words are as long as said, to read; the notes are, to write to, and apart.
-    unsafe { vsp_infer(words.as_ptr(), words.len(), entry, notes.as_mut_ptr(), notes.len()) }
+    unsafe { vsp_infer(version, from, words.len(), entry_low, entry_high, room, notes.len()) }
 }
 
 /// 0, or [`FEWER`], or number + 2^8 place + 2^16 index + 2^32 register + 2^48 parcel, 1 for the

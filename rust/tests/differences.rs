@@ -1,37 +1,54 @@
 //! Parcels compared by the library and by the reference, the whole list and its lines one by
-//! one: over thirty thousand pairs. What is expected is worked out here from the bits of the
-//! words.
+//! one: over forty thousand pairs, of the same version and of different ones. What is expected is
+//! worked out here from the bits of the words.
 
 mod common;
 
 use common::{Comparer, compile};
-use inputs::{Rng, encode, instruction, on_r0, parcel, refused_word};
-use reference::{Difference, Instruction, MODIFIER_BITS, ROW_COUNT, ROWS, Refusal, Row, Side, Unread, What, read};
+use inputs::{
+    Rng, Set, both_versions, encode, instruction, on_r0, parcel, parcel_2, parcel_of, refused_word, with_version,
+};
+use reference::{
+    Difference, Half, Instruction, MODIFIER_BITS, ROW_COUNT, ROWS, Refusal, Row, Side, Unread, What, read,
+};
 use std::collections::HashSet;
 use std::path::{Path, PathBuf};
 use std::process::{Command, Output};
 
-/// What a parcel is made of; the notes needn't be acceptable.
-#[derive(Clone)]
-struct Parts {
-    entry: u64,
-    words: Vec<u64>,
-    notes: Vec<u64>,
+both_versions! {
+    equal_parcels
+    longer_by_one_and_by_many
+    only_the_entry_set
+    only_notes
+    refusals
+    random_pairs
+    changed_parcels
+    flipped_bits
+    longest_parcels
+    any_alignment
 }
 
-impl Parts {
-    fn random(rng: &mut Rng, count: usize) -> Parts {
+/// What a parcel of the version whose sets these are is made of; the notes needn't be acceptable.
+#[derive(Clone)]
+struct Parts<S = u64> {
+    entry: S,
+    words: Vec<u64>,
+    notes: Vec<S>,
+}
+
+impl<S: Set> Parts<S> {
+    fn random(rng: &mut Rng, count: usize) -> Parts<S> {
         let words = (0..count).map(|_| any_word(rng)).collect();
-        Parts { entry: rng.bits(), words, notes: (0..count).map(|_| rng.bits()).collect() }
+        Parts { entry: S::random(rng), words, notes: (0..count).map(|_| S::random(rng)).collect() }
     }
 
     /// A single instruction.
-    fn single(instruction: &Instruction) -> Parts {
-        Parts { entry: 1, words: vec![encode(instruction)], notes: vec![2] }
+    fn single(instruction: &Instruction) -> Parts<S> {
+        Parts { entry: S::register(0), words: vec![encode(instruction)], notes: vec![S::register(1)] }
     }
 
     fn bytes(&self) -> Vec<u8> {
-        parcel(self.entry, &self.words, &self.notes)
+        parcel_of(self.entry, &self.words, &self.notes)
     }
 
     fn count(&self) -> usize {
@@ -39,14 +56,14 @@ impl Parts {
     }
 
     /// The parcel with this instruction in place of another.
-    fn with(&self, index: usize, instruction: &Instruction) -> Parts {
+    fn with(&self, index: usize, instruction: &Instruction) -> Parts<S> {
         let mut parts = self.clone();
         parts.words[index] = encode(instruction);
         parts
     }
 
     /// The first so many instructions, with their notes.
-    fn shortened(&self, count: usize) -> Parts {
+    fn shortened(&self, count: usize) -> Parts<S> {
         Parts { entry: self.entry, words: self.words[..count].to_vec(), notes: self.notes[..count].to_vec() }
     }
 }
@@ -94,25 +111,38 @@ fn order() -> Vec<What> {
 }
 
 /// The whole list.
-fn expected(first: &Parts, second: &Parts) -> Vec<Difference> {
+fn expected<A: Set, B: Set>(first: &Parts<A>, second: &Parts<B>) -> Vec<Difference> {
     let order = order();
-    let mut lines = Vec::new();
+    let mut lines = vec![line(What::Version, 0, A::VERSION.into(), B::VERSION.into())];
     for (index, (a, b)) in first.words.iter().zip(&second.words).enumerate() {
         lines.extend(order.iter().map(|what| line(*what, index, content(*a, *what), content(*b, *what))));
     }
-    lines.retain(|line| line.first != line.second);
     let (n, m) = (first.count(), second.count());
-    lines.extend((m..n).map(|index| line(What::Removed, index, first.words[index], 0)));
-    lines.extend((n..m).map(|index| line(What::Added, index, 0, second.words[index])));
-    let entry = (first.entry != second.entry).then_some(line(What::Entry, 0, first.entry, second.entry));
-    lines.extend(entry);
-    let notes = first.notes.iter().zip(&second.notes).enumerate().filter(|(_, (a, b))| a != b);
-    lines.extend(notes.map(|(index, (a, b))| line(What::Note, index, *a, *b)));
-    lines
+    let mut extra = Vec::from_iter((m..n).map(|index| line(What::Removed, index, first.words[index], 0)));
+    extra.extend((n..m).map(|index| line(What::Added, index, 0, second.words[index])));
+    let mut sets = set_lines(What::Entry, 0, first.entry, second.entry);
+    for (index, (a, b)) in first.notes.iter().zip(&second.notes).enumerate() {
+        sets.extend(set_lines(What::Note, index, *a, *b));
+    }
+    lines.retain(|line| line.first != line.second);
+    sets.retain(|line| line.first != line.second);
+    [lines, extra, sets].concat()
+}
+
+/// The lines of two sets, different or not: one for registers, else one for each half.
+fn set_lines<A: Set, B: Set>(what: fn(Option<Half>) -> What, index: usize, first: A, second: B) -> Vec<Difference> {
+    let ([low, high], [other_low, other_high]) = (first.halves(), second.halves());
+    match (A::VERSION, B::VERSION) {
+        (1, 1) => vec![line(what(None), index, low, other_low)],
+        _ => vec![
+            line(what(Some(Half::Low)), index, low, other_low),
+            line(what(Some(Half::High)), index, high, other_high),
+        ],
+    }
 }
 
 /// Compares with all, either way round; gives back the list.
-fn compare(comparer: &mut Comparer, first: &Parts, second: &Parts) -> Vec<Difference> {
+fn compare<A: Set, B: Set>(comparer: &mut Comparer, first: &Parts<A>, second: &Parts<B>) -> Vec<Difference> {
     let list = expected(first, second);
     let (a, b) = (first.bytes(), second.bytes());
     assert_eq!(comparer.compare(&a, &b), Ok(list.clone()));
@@ -136,13 +166,12 @@ fn plain(name: &str) -> Instruction {
     on_r0(row(name))
 }
 
-#[test]
-fn equal_parcels() {
+fn equal_parcels<S: Set>() {
     let mut comparer = Comparer::new(600);
     let mut rng = Rng::new(601);
     for count in (1..=30).chain([255, 256, 2047, 2048]) {
         for _ in 0..4 {
-            let parts = Parts::random(&mut rng, count);
+            let parts = Parts::<S>::random(&mut rng, count);
             assert_eq!(compare(&mut comparer, &parts, &parts), []);
             let bytes = parts.bytes();
             assert_eq!(comparer.compare(&bytes, &bytes), Ok(Vec::new()), "the same memory");
@@ -161,7 +190,7 @@ fn one_bit_of_a_field() {
         for _ in 0..3 {
             let count = 1 + rng.below(4);
             let index = rng.below(count);
-            let first = Parts::random(&mut rng, count).with(index, &instruction(&mut rng, number));
+            let first = Parts::<u64>::random(&mut rng, count).with(index, &instruction(&mut rng, number));
             for (what, low, width) in &fields {
                 for bit in *low..low + width {
                     let mut second = first.clone();
@@ -186,7 +215,7 @@ fn values_of_modifiers() {
     let mut comparer = Comparer::new(604);
     let mut pairs = 0;
     for number in 0..ROW_COUNT as u8 {
-        let at = |low, value| Parts::single(&with(on_r0(number), low, value));
+        let at = |low, value| Parts::<u64>::single(&with(on_r0(number), low, value));
         for (low, modifier) in MODIFIER_BITS.iter().zip(ROWS[number as usize].modifiers) {
             let legal: Vec<u8> = (0..16).filter(|value| modifier.legal >> value & 1 != 0).collect();
             for (k, a) in legal.iter().enumerate() {
@@ -206,10 +235,10 @@ fn values_of_modifiers() {
 fn destinations() {
     let mut comparer = Comparer::new(605);
     let mov = plain("MOV.i32");
-    let first = Parts::single(&Instruction { register: 9, half_mask: 2, ..mov });
+    let first = Parts::<u64>::single(&Instruction { register: 9, half_mask: 2, ..mov });
     for half_mask in 1..=3 {
         for register in 0..64 {
-            let second = Parts::single(&Instruction { register, half_mask, ..mov });
+            let second = Parts::<u64>::single(&Instruction { register, half_mask, ..mov });
             let content = u64::from(register) + 64 * u64::from(half_mask);
             let only = (content != 137).then_some(line(What::Destination, 0, 137, content));
             assert_eq!(compare(&mut comparer, &first, &second), Vec::from_iter(only));
@@ -225,7 +254,7 @@ fn other_rows() {
     let mut seen = [0; 22];
     for first in 0..ROW_COUNT as u8 {
         for second in 0..first {
-            let parts = Parts::random(&mut rng, 1);
+            let parts = Parts::<u64>::random(&mut rng, 1);
             let a = parts.with(0, &instruction(&mut rng, first));
             let b = parts.with(0, &instruction(&mut rng, second));
             let list = compare(&mut comparer, &a, &b);
@@ -270,7 +299,7 @@ fn shared_modifier_bits() {
         ),
     ];
     for (first, second, rest) in cases {
-        let list = compare(&mut comparer, &Parts::single(&first), &Parts::single(&second));
+        let list = compare(&mut comparer, &Parts::<u64>::single(&first), &Parts::<u64>::single(&second));
         let rows = line(What::Row, 0, first.row.into(), second.row.into());
         assert_eq!(list, [&[rows], rest].concat(), "{first:?} {second:?}");
     }
@@ -298,7 +327,7 @@ fn offset_against_nan_mode() {
                 let (mode, ftz, infinity) = (fields % 3, fields / 3 % 2, fields / 6);
                 let flush = with(with(with(plain(name), 8, mode), 10, ftz), 11, infinity);
                 let branch = Instruction { offset, ..plain("BRANCHZ") };
-                let list = compare(&mut comparer, &Parts::single(&branch), &Parts::single(&flush));
+                let list = compare(&mut comparer, &Parts::<u64>::single(&branch), &Parts::<u64>::single(&flush));
                 let mut wanted = vec![
                     line(What::Row, 0, 1, row(name).into()),
                     line(What::Destination, 0, 0, 0xC0),
@@ -315,13 +344,12 @@ fn offset_against_nan_mode() {
 }
 
 /// The extra instructions, also where their words are 0, and not their notes.
-#[test]
-fn longer_by_one_and_by_many() {
+fn longer_by_one_and_by_many<S: Set>() {
     let mut comparer = Comparer::new(610);
     let mut rng = Rng::new(611);
     for (short, extra) in [(1, 1), (1, 2), (3, 1), (7, 20), (30, 300), (2047, 1), (1, 2047), (1000, 1048)] {
         for nops in [false, true] {
-            let mut long = Parts::random(&mut rng, short + extra);
+            let mut long = Parts::<S>::random(&mut rng, short + extra);
             if nops {
                 long.words[short..].fill(0);
             }
@@ -335,34 +363,42 @@ fn longer_by_one_and_by_many() {
     }
 }
 
-#[test]
-fn only_the_entry_set() {
+/// The set of one bit of a set's bytes.
+fn single<S: Set>(bit: usize) -> S {
+    let mut bytes = vec![0; S::BYTES];
+    bytes[bit / 8] = 1 << (bit % 8);
+    S::load(&bytes)
+}
+
+fn only_the_entry_set<S: Set>() {
     let mut comparer = Comparer::new(612);
     let mut rng = Rng::new(613);
-    for bit in 0..64 {
+    for bit in 0..8 * S::BYTES {
         let count = 1 + rng.below(5);
-        let first = Parts::random(&mut rng, count);
-        for entry in [first.entry ^ 1 << bit, rng.bits()] {
-            let only = line(What::Entry, 0, first.entry, entry);
-            assert_eq!(compare(&mut comparer, &first, &Parts { entry, ..first.clone() }), [only]);
+        let first = Parts::<S>::random(&mut rng, count);
+        for entry in [first.entry ^ single(bit), S::random(&mut rng)] {
+            let mut only = set_lines(What::Entry, 0, first.entry, entry);
+            only.retain(|line| line.first != line.second);
+            assert_eq!(compare(&mut comparer, &first, &Parts { entry, ..first.clone() }), only);
         }
     }
 }
 
-#[test]
-fn only_notes() {
+fn only_notes<S: Set>() {
     let mut comparer = Comparer::new(614);
     let mut rng = Rng::new(615);
-    for bit in 0..64 {
+    for bit in 0..8 * S::BYTES {
         let count = 1 + rng.below(9);
-        let first = Parts::random(&mut rng, count);
+        let first = Parts::<S>::random(&mut rng, count);
         let mut second = first.clone();
         let index = rng.below(count);
-        second.notes[index] ^= 1 << bit;
-        let only = line(What::Note, index, first.notes[index], second.notes[index]);
-        assert_eq!(compare(&mut comparer, &first, &second), [only]);
-        second.notes.fill_with(|| rng.bits());
-        let all = (0..count).map(|index| line(What::Note, index, first.notes[index], second.notes[index]));
+        second.notes[index] = first.notes[index] ^ single(bit);
+        let mut only = set_lines(What::Note, index, first.notes[index], second.notes[index]);
+        only.retain(|line| line.first != line.second);
+        assert_eq!(only.len(), 1);
+        assert_eq!(compare(&mut comparer, &first, &second), only);
+        second.notes.fill_with(|| S::random(&mut rng));
+        let all = (0..count).flat_map(|index| set_lines(What::Note, index, first.notes[index], second.notes[index]));
         assert_eq!(compare(&mut comparer, &first, &second), Vec::from_iter(all));
     }
 }
@@ -377,12 +413,12 @@ fn parcels_that_a_check_refuses() {
     assert_ne!(vsp::check(&first.bytes()), vsp::Verdict::Accepted);
     assert_ne!(vsp::check(&second.bytes()), vsp::Verdict::Accepted);
     assert_eq!(compare(&mut comparer, &first, &first), []);
-    assert_eq!(compare(&mut comparer, &first, &second), [line(What::Note, 0, u64::MAX, 0)]);
+    assert_eq!(compare(&mut comparer, &first, &second), [line(What::Note(None), 0, u64::MAX, 0)]);
 }
 
 /// Parcels that don't open or read, each with its refusal and its index.
-fn unread_parcels(rng: &mut Rng) -> Vec<(Vec<u8>, Refusal, usize)> {
-    let good = Parts::random(rng, 5).bytes();
+fn unread_parcels<S: Set>(rng: &mut Rng) -> Vec<(Vec<u8>, Refusal, usize)> {
+    let good = Parts::<S>::random(rng, 5).bytes();
     let damaged = |at: usize, byte: u8| {
         let mut bytes = good.clone();
         bytes[at] = byte;
@@ -394,14 +430,17 @@ fn unread_parcels(rng: &mut Rng) -> Vec<(Vec<u8>, Refusal, usize)> {
         (good[..good.len() - 1].to_vec(), Refusal::Size, 0),
         ([&good[..], &[0]].concat(), Refusal::Size, 0),
         (damaged(6, 0), Refusal::Size, 0),
-        (parcel(0, &[0; 2049], &[0; 2049]), Refusal::Size, 0),
+        (parcel_of(S::NONE, &[0; 2049], &[S::NONE; 2049]), Refusal::Size, 0),
+        (good[..S::HEADER - 1].to_vec(), Refusal::Size, 0),
+        (with_version(&good, 3 - u16::from(S::VERSION)), Refusal::Size, 0),
+        (with_version(&good, 3), Refusal::Version, 0),
         (damaged(1, b's'), Refusal::Mark, 0),
         (damaged(4, 1), Refusal::Version, 0),
         (damaged(5, 1), Refusal::ReservedByte, 0),
     ];
     for number in 2..=7 {
         let count = 1 + rng.below(300);
-        let mut parts = Parts::random(rng, count);
+        let mut parts = Parts::<S>::random(rng, count);
         let index = rng.below(count);
         let (word, refusal) = refused_word(rng, number);
         parts.words[index] = word;
@@ -417,13 +456,12 @@ fn unread_parcels(rng: &mut Rng) -> Vec<(Vec<u8>, Refusal, usize)> {
 }
 
 /// One or both refused, in the same way or in others: the first parcel comes first.
-#[test]
-fn refusals() {
+fn refusals<S: Set>() {
     let mut comparer = Comparer::new(617);
     let mut rng = Rng::new(618);
     for _ in 0..4 {
-        let good = Parts::random(&mut rng, 40).bytes();
-        let unread = unread_parcels(&mut rng);
+        let good = Parts::<S>::random(&mut rng, 40).bytes();
+        let unread = unread_parcels::<S>(&mut rng);
         for (first, refusal, index) in &unread {
             let answer = |side| Err(Unread { side, refusal: *refusal, index: *index as u16 });
             assert_eq!(comparer.compare(first, &good), answer(Side::First));
@@ -449,41 +487,147 @@ fn code_of_a_refusal() {
         assert_eq!(vsp::raw::diff_line(&[], &bad, k, &mut line), 0x0001_0040_0000_000C);
         assert_eq!(vsp::raw::diff_line(&good, &[], k, &mut line), 0x0002_0040_0000_000C);
         assert_eq!(vsp::raw::diff_line(&good, &good, k, &mut line), 255);
+        assert_eq!(vsp::raw::diff_line(&good, &with_version(&good, 3), k, &mut line), 0x0002_0040_0000_000B);
+        assert_eq!(vsp::raw::diff_line(&with_version(&good, 2), &bad, k, &mut line), 0x0001_0040_0000_000C);
     }
     assert_eq!(line, [7; 3]);
 }
 
+/// The numbers of lines, digit by digit: what, which, index.
 #[test]
-fn random_pairs() {
+fn numbers_of_lines() {
+    let first = parcel(4, &[0; 3], &[0, 0, 1]);
+    let second = parcel_2([5, 6], &[0; 3], &[[0, 0], [0, 0], [2, 3]]);
+    let lines = [[0x0A, 1, 2], [0x0108, 4, 5], [0x0208, 4, 6], [0x0002_0109, 1, 2], [0x0002_0209, 1, 3]];
+    let mut line = [7; 3];
+    for (k, numbers) in lines.into_iter().enumerate() {
+        assert_eq!(vsp::raw::diff_line(&first, &second, k, &mut line), 0);
+        assert_eq!(line, numbers);
+    }
+    assert_eq!(vsp::raw::diff_line(&first, &second, 5, &mut line), 255);
+    let mut room = vec![[7; 3]; vsp::DIFF_LINES];
+    let answer = vsp::raw::diff_lines(&first, &second, room.first_chunk_mut().unwrap());
+    assert_eq!((answer, &room[..6]), (0x0005_0000, &[&lines[..], &[[7; 3]]].concat()[..]));
+    let third = parcel(5, &[0; 3], &[0, 0, 2]);
+    for (k, numbers) in [[0x08, 4, 5], [0x0002_0009, 1, 2]].into_iter().enumerate() {
+        assert_eq!(vsp::raw::diff_line(&first, &third, k, &mut line), 0);
+        assert_eq!(line, numbers);
+    }
+    assert_eq!(vsp::DIFF_LINES, 49_155);
+}
+
+fn random_pairs<S: Set>() {
     let mut comparer = Comparer::new(619);
     let mut rng = Rng::new(620);
     for _ in 0..1_000 {
         let (n, m) = (1 + rng.below(12), 1 + rng.below(12));
-        let first = Parts::random(&mut rng, n);
-        let second = Parts::random(&mut rng, m);
+        let first = Parts::<S>::random(&mut rng, n);
+        let second = Parts::<S>::random(&mut rng, m);
         let list = compare(&mut comparer, &first, &second);
         let extra = list.iter().filter(|line| matches!(line.what, What::Added | What::Removed)).count();
         assert_eq!(extra, n.abs_diff(m));
-        assert_eq!(list.iter().filter(|line| line.what == What::Note).count(), n.min(m));
+        let notes = list.iter().filter(|line| matches!(line.what, What::Note(_))).count();
+        assert_eq!(notes, n.min(m) * S::BYTES / 8);
+    }
+}
+
+/// A version 1 parcel and one of version 2: the versions come first, and each set has a line for
+/// either half.
+#[test]
+fn other_versions() {
+    let mut comparer = Comparer::new(631);
+    let mut rng = Rng::new(632);
+    for _ in 0..1_000 {
+        let (n, m) = (1 + rng.below(12), 1 + rng.below(12));
+        let first = Parts::<u64>::random(&mut rng, n);
+        let second = Parts::<u128>::random(&mut rng, m);
+        let list = compare(&mut comparer, &first, &second);
+        assert_eq!(list[0], line(What::Version, 0, 1, 2));
+        let count = |what: fn(&What) -> bool| list.iter().filter(|line| what(&line.what)).count();
+        assert_eq!(count(|what| *what == What::Version), 1);
+        assert_eq!(count(|what| matches!(what, What::Entry(Some(_)))), 2);
+        assert_eq!(count(|what| matches!(what, What::Note(Some(_)))), 2 * n.min(m));
+        assert_eq!(count(|what| matches!(what, What::Entry(None) | What::Note(None))), 0);
+    }
+}
+
+/// The same program in both versions, its sets with both halves; then with one half changed.
+#[test]
+fn only_the_version() {
+    let mut comparer = Comparer::new(633);
+    let mut rng = Rng::new(634);
+    let versions = line(What::Version, 0, 1, 2);
+    for count in (1..=30).chain([255, 2047, 2048]) {
+        let first = Parts::<u64>::random(&mut rng, count);
+        let both = |set: u64| u128::from_halves([set; 2]);
+        let notes = first.notes.iter().map(|note| both(*note)).collect();
+        let second = Parts { entry: both(first.entry), words: first.words.clone(), notes };
+        assert_eq!(compare(&mut comparer, &first, &second), [versions]);
+        for (half_mask, half) in [(1, Half::Low), (2, Half::High)] {
+            let (register, index) = (rng.below(64) as u8, rng.below(count));
+            let bit = 1 << register;
+            let mut other = second.clone();
+            other.notes[index] ^= u128::filled(register, half_mask);
+            let note = line(What::Note(Some(half)), index, first.notes[index], first.notes[index] ^ bit);
+            assert_eq!(compare(&mut comparer, &first, &other), [versions, note]);
+            other.entry ^= u128::filled(register, half_mask);
+            let entry = line(What::Entry(Some(half)), 0, first.entry, first.entry ^ bit);
+            assert_eq!(compare(&mut comparer, &first, &other), [versions, entry, note]);
+        }
+    }
+}
+
+/// As many instructions as there may be, in the one version and in the other.
+#[test]
+fn longest_parcels_of_other_versions() {
+    let mut comparer = Comparer::new(635);
+    let mut rng = Rng::new(636);
+    for (n, m) in [(2048, 2048), (2048, 1), (1, 2048)] {
+        let first = Parts::<u64>::random(&mut rng, n);
+        let second = Parts::<u128>::random(&mut rng, m);
+        let list = compare(&mut comparer, &first, &second);
+        assert!(list.len() > 2_000, "{}", list.len());
+        let (a, b) = (first.bytes(), second.bytes());
+        for k in (0..list.len()).step_by(557) {
+            comparer.compare_line(&a, &b, k, &Ok(list.clone()));
+        }
+    }
+}
+
+/// One version or the other refused, or both: the first parcel comes first.
+#[test]
+fn refusals_of_other_versions() {
+    let mut comparer = Comparer::new(637);
+    let mut rng = Rng::new(638);
+    let good = [Parts::<u64>::random(&mut rng, 9).bytes(), Parts::<u128>::random(&mut rng, 9).bytes()];
+    let unread = [unread_parcels::<u64>(&mut rng), unread_parcels::<u128>(&mut rng)];
+    for (mine, other) in [(0, 1), (1, 0)] {
+        for (first, refusal, index) in &unread[mine] {
+            let answer = |side| Err(Unread { side, refusal: *refusal, index: *index as u16 });
+            assert_eq!(comparer.compare(first, &good[other]), answer(Side::First));
+            assert_eq!(comparer.compare(&good[other], first), answer(Side::Second));
+            for (second, ..) in &unread[other] {
+                assert_eq!(comparer.compare(first, second), answer(Side::First));
+            }
+        }
     }
 }
 
 /// A few things changed: words, notes, the entry set, the length.
-#[test]
-fn changed_parcels() {
+fn changed_parcels<S: Set>() {
     let mut comparer = Comparer::new(621);
     let mut rng = Rng::new(622);
     let mut equal = 0;
     for _ in 0..1_000 {
         let count = 2 + rng.below(20);
-        let first = Parts::random(&mut rng, count);
+        let first = Parts::<S>::random(&mut rng, count);
         let mut second = first.clone();
         for _ in 0..rng.below(4) {
             let index = rng.below(count);
             match rng.below(4) {
                 0 => second.words[index] = any_word(&mut rng),
-                1 => second.notes[index] ^= rng.bits() & rng.bits(),
-                2 => second.entry ^= 1 << rng.below(64),
+                1 => second.notes[index] = second.notes[index] ^ S::random(&mut rng) & S::random(&mut rng),
+                2 => second.entry = second.entry ^ S::ALL.member(&mut rng),
                 _ => second.words.swap(index, 0),
             }
         }
@@ -496,14 +640,13 @@ fn changed_parcels() {
 }
 
 /// One to three bits flipped anywhere: refused, or something is listed.
-#[test]
-fn flipped_bits() {
+fn flipped_bits<S: Set>() {
     let mut comparer = Comparer::new(623);
     let mut rng = Rng::new(624);
     let (mut refused, mut listed) = (0, 0);
     for _ in 0..2_000 {
         let count = 1 + rng.below(6);
-        let first = Parts::random(&mut rng, count).bytes();
+        let first = Parts::<S>::random(&mut rng, count).bytes();
         let mut second = first.clone();
         for _ in 0..1 + rng.below(3) {
             let at = rng.below(second.len());
@@ -524,20 +667,20 @@ fn flipped_bits() {
 }
 
 /// As many instructions as there may be, all different, and some of the lines one by one.
-#[test]
-fn longest_parcels() {
+fn longest_parcels<S: Set>() {
     let mut comparer = Comparer::new(625);
     let mut rng = Rng::new(626);
     for _ in 0..3 {
-        let first = Parts::random(&mut rng, 2048);
-        let mut second = Parts::random(&mut rng, 2048);
+        let first = Parts::<S>::random(&mut rng, 2048);
+        let mut second = Parts::<S>::random(&mut rng, 2048);
         for (a, b) in first.words.iter().zip(&mut second.words) {
             while a == b {
                 *b = any_word(&mut rng);
             }
         }
         let list = compare(&mut comparer, &first, &second);
-        let touched: HashSet<u16> = list.iter().filter(|line| line.what != What::Note).map(|line| line.index).collect();
+        let touched: HashSet<u16> =
+            list.iter().filter(|line| !matches!(line.what, What::Note(_))).map(|line| line.index).collect();
         assert_eq!(touched.len(), 2048);
         assert!(list.len() > 15_000, "{}", list.len());
         let (a, b) = (first.bytes(), second.bytes());
@@ -548,14 +691,13 @@ fn longest_parcels() {
 }
 
 /// Parcels that start at any address.
-#[test]
-fn any_alignment() {
+fn any_alignment<S: Set>() {
     let mut comparer = Comparer::new(627);
     let mut rng = Rng::new(628);
     for start in 0..8 {
         for other in 0..8 {
-            let first = Parts::random(&mut rng, 3);
-            let second = Parts::random(&mut rng, 4);
+            let first = Parts::<S>::random(&mut rng, 3);
+            let second = Parts::<S>::random(&mut rng, 4);
             let a = [&[0xFF; 8][..start], &first.bytes()].concat();
             let b = [&[0xFF; 8][..other], &second.bytes()].concat();
             assert_eq!(comparer.compare(&a[start..], &b[other..]), Ok(expected(&first, &second)));
@@ -627,10 +769,19 @@ const SMALL_BACK: &str = "\
 0003 note: 8 0
 ";
 
+fn name_of(half: Option<vsp::Half>) -> &'static str {
+    match half {
+        None => "",
+        Some(vsp::Half::Low) => " low",
+        Some(vsp::Half::High) => " high",
+    }
+}
+
 /// The lines as the C example prints them.
 fn text(lines: &[vsp::Difference]) -> String {
     let print = |line: &vsp::Difference| {
         let what = match line.what {
+            vsp::What::Version => "version".to_string(),
             vsp::What::Row => return format!("{:04} row: {} {}\n", line.index, line.first, line.second),
             vsp::What::Page => "page".to_string(),
             vsp::What::Flow => "flow".to_string(),
@@ -639,8 +790,8 @@ fn text(lines: &[vsp::Difference]) -> String {
             vsp::What::Modifier(low) => format!("modifier {low}"),
             vsp::What::Added => "added".to_string(),
             vsp::What::Removed => "removed".to_string(),
-            vsp::What::Entry => "entry set".to_string(),
-            vsp::What::Note => "note".to_string(),
+            vsp::What::Entry(half) => format!("entry set{}", name_of(half)),
+            vsp::What::Note(half) => format!("note{}", name_of(half)),
         };
         format!("{:04} {what}: {:X} {:X}\n", line.index, line.first, line.second)
     };
@@ -656,6 +807,53 @@ fn small_example() {
     assert_eq!(text(&list), SMALL);
     let list = vsp::differences(&delivered.bytes(), &approved.bytes()).unwrap();
     assert_eq!(text(&list), SMALL_BACK);
+}
+
+/// The delivered one in version 2, with other high halves; the approved one with both halves.
+fn small_parcels_2() -> [Parts<u128>; 2] {
+    let [approved, delivered] = small_parcels();
+    let halves = |sets: &[[u64; 2]]| sets.iter().map(|set| u128::from_halves(*set)).collect();
+    let notes = halves(&[[0x4; 2], [0x6; 2], [0xA; 2], [0x0; 2]]);
+    let approved = Parts { entry: u128::from_halves([0x4; 2]), words: approved.words, notes };
+    let notes = halves(&[[0x6, 0x4], [0x6, 0x2], [0xA, 0xA], [0x8, 0x0], [0xFF, 0x1]]);
+    [approved, Parts { entry: u128::from_halves([0x6, 0x4]), words: delivered.words, notes }]
+}
+
+/// What differs in the sets, worked out by hand; in the words it is as in version 1.
+const SMALL_SETS: &str = "\
+0000 entry set low: 4 6
+0000 note low: 4 6
+0001 note high: 6 2
+0003 note low: 0 8
+";
+
+/// The same the other way round.
+const SMALL_SETS_BACK: &str = "\
+0000 entry set low: 6 4
+0000 note low: 6 4
+0001 note high: 2 6
+0003 note low: 8 0
+";
+
+/// The lists of the approved parcel, in either version, and the delivered one of version 2.
+fn small_lists() -> [(Vec<u8>, Vec<u8>, String); 4] {
+    let old = small_parcels()[0].bytes();
+    let [approved, delivered] = small_parcels_2().map(|parts| parts.bytes());
+    let words = |list: &str| list.lines().take(13).map(|line| format!("{line}\n")).collect::<String>();
+    let (there, back) = (words(SMALL) + SMALL_SETS, words(SMALL_BACK) + SMALL_SETS_BACK);
+    [
+        (old.clone(), delivered.clone(), format!("0000 version: 1 2\n{there}")),
+        (delivered.clone(), old, format!("0000 version: 2 1\n{back}")),
+        (approved.clone(), delivered.clone(), there),
+        (delivered, approved, back),
+    ]
+}
+
+#[test]
+fn small_example_of_version_2() {
+    for (first, second, list) in small_lists() {
+        assert_eq!(text(&vsp::differences(&first, &second).unwrap()), list);
+    }
 }
 
 /// A file with these bytes beside the program.
@@ -688,15 +886,27 @@ fn listed_by_the_c_example() {
         for (k, line) in list.lines().enumerate() {
             assert_output(&diff(&program, first, second, &[&k.to_string()]), 1, &format!("{line}\n"), "");
         }
-        for k in ["16", "17", "47105", "18446744073709551615"] {
+        for k in ["16", "17", "49155", "18446744073709551615"] {
             assert_output(&diff(&program, first, second, &[k]), 0, "", "");
+        }
+    }
+    for (first, second, list) in small_lists() {
+        assert_output(&diff(&program, &first, &second, &[]), 1, &list, "");
+        for (k, line) in list.lines().enumerate() {
+            assert_output(&diff(&program, &first, &second, &[&k.to_string()]), 1, &format!("{line}\n"), "");
+        }
+        for k in ["18", "49155"] {
+            assert_output(&diff(&program, &first, &second, &[k]), 0, "", "");
         }
     }
     let mut rng = Rng::new(630);
     for (n, m) in [(2048, 2048), (2048, 1), (1, 2048)] {
-        let (first, second) = (Parts::random(&mut rng, n).bytes(), Parts::random(&mut rng, m).bytes());
-        let list = vsp::differences(&first, &second).unwrap();
-        assert_output(&diff(&program, &first, &second, &[]), 1, &text(&list), "");
+        let one = [n, m].map(|count| Parts::<u64>::random(&mut rng, count).bytes());
+        let two = [n, m].map(|count| Parts::<u128>::random(&mut rng, count).bytes());
+        for (first, second) in [(&one[0], &one[1]), (&two[0], &two[1]), (&one[0], &two[1]), (&two[0], &one[1])] {
+            let list = vsp::differences(first, second).unwrap();
+            assert_output(&diff(&program, first, second, &[]), 1, &text(&list), "");
+        }
     }
 }
 

@@ -1,8 +1,8 @@
 //! Refusals and verdicts in words.
 
-use inputs::parcel;
+use inputs::{parcel, parcel_2, with_version};
 use std::error::Error;
-use vsp::{Inference, Refusal, Side, Unread, Verdict};
+use vsp::{Half, Inference, Refusal, Side, Unread, Verdict};
 
 /// MOV.i32 r1, r2 without and with flow `end`; one with a bit too many.
 const MOV: u64 = 0x0091_C100_0000_0002;
@@ -50,30 +50,63 @@ fn refusals_that_are_given() {
 fn verdicts() {
     let examples: [(u64, &[u64], &[u64], &str); 7] = [
         (4, &[LAST], &[4], "accepted"),
-        (4, &[LAST], &[0], "refused with 20 at instruction 0: it reads r2, which its note doesn't name"),
+        (4, &[LAST], &[0], "refused with 20 at instruction 0: it reads r2L, which its note doesn't name"),
         (4, &[MOV], &[4], "refused with 21 at instruction 0: it can go on to a place outside the program"),
         (
             4,
             &[MOV, LAST],
             &[4, 12],
-            "refused with 22 at instruction 0: it can go on to an instruction whose note names r3, which by its \
+            "refused with 22 at instruction 0: it can go on to an instruction whose note names r3L, which by its \
              own note it doesn't leave filled",
         ),
         (
             4,
             &[LAST],
             &[6],
-            "refused with 23 at instruction 0: it has a note that names r1, which the parcel doesn't say is filled \
+            "refused with 23 at instruction 0: it has a note that names r1L, which the parcel doesn't say is filled \
              before the start",
         ),
-        (4, &[MOV, STRAY], &[4, 4], "refused with 3 at instruction 1: a bit is 1 that the instruction has no use for (bit 63)"),
+        (
+            4,
+            &[MOV, STRAY],
+            &[4, 4],
+            "refused with 3 at instruction 1: a bit is 1 that the instruction has no use for (bit 63)",
+        ),
         (4, &[1 << 48], &[4], "refused with 2 at instruction 0: the word is no instruction of the table"),
     ];
     for (entry, words, notes, sentence) in examples {
         assert_eq!(check(entry, words, notes), sentence);
     }
-    let verdict = Verdict::Refused { number: 20, place: 0, index: 3, register: 5 };
-    assert_eq!(verdict.to_string(), "refused with 20 at instruction 3: it reads r5, which its note doesn't name");
+    let verdict = Verdict::Refused { number: 20, place: 0, index: 3, register: 5, half: Some(Half::Low) };
+    assert_eq!(verdict.to_string(), "refused with 20 at instruction 3: it reads r5L, which its note doesn't name");
+}
+
+/// In version 2 the half can be the high one.
+#[test]
+fn verdicts_on_halves() {
+    type Sets = [u64; 2];
+    let examples: [(Sets, &[u64], &[Sets], &str); 5] = [
+        ([4, 4], &[LAST], &[[4, 4]], "accepted"),
+        ([4, 4], &[LAST], &[[4, 0]], "refused with 20 at instruction 0: it reads r2H, which its note doesn't name"),
+        ([4, 4], &[LAST], &[[0, 4]], "refused with 20 at instruction 0: it reads r2L, which its note doesn't name"),
+        (
+            [4, 4],
+            &[MOV, LAST],
+            &[[4, 4], [4, 12]],
+            "refused with 22 at instruction 0: it can go on to an instruction whose note names r3H, which by its \
+             own note it doesn't leave filled",
+        ),
+        (
+            [6, 4],
+            &[LAST],
+            &[[6, 6]],
+            "refused with 23 at instruction 0: it has a note that names r1H, which the parcel doesn't say is filled \
+             before the start",
+        ),
+    ];
+    for (entry, words, notes, sentence) in examples {
+        assert_eq!(vsp::check(&parcel_2(entry, words, notes)).to_string(), sentence);
+    }
 }
 
 /// No instruction is at fault where the parcel doesn't open.
@@ -82,7 +115,7 @@ fn verdicts_on_what_does_not_open() {
     let good = parcel(4, &[LAST], &[4]);
     let examples = [
         (0, b'v', "refused with 10: the mark isn't VSP"),
-        (3, 2, "refused with 11: the version isn't 1"),
+        (3, 3, "refused with 11: the version is neither 1 nor 2"),
         (5, 1, "refused with 13: byte 5 isn't 0"),
         (6, 2, "refused with 12: the count of instructions or the length is wrong"),
     ];
@@ -91,14 +124,17 @@ fn verdicts_on_what_does_not_open() {
         bytes[at] = byte;
         assert_eq!(vsp::check(&bytes).to_string(), sentence);
     }
+    let other = vsp::check(&with_version(&good, 2)).to_string();
+    assert_eq!(other, "refused with 12: the count of instructions or the length is wrong");
 }
 
 #[test]
 fn inferences() {
-    let infer = |words: &[u64], entry, room: usize| {
+    let infer_for = |version, words: &[u64], low, high, room: usize| {
         let words: Vec<u8> = words.iter().flat_map(|word| word.to_le_bytes()).collect();
-        vsp::infer(&words, entry, &mut vec![0; room]).to_string()
+        vsp::infer(version, &words, low, high, &mut vec![0; room]).to_string()
     };
+    let infer = |words: &[u64], entry, room| infer_for(1, words, entry, 0, room);
     assert_eq!(infer(&[LAST], 4, 8), "notes proposed, sweeps: 1");
     assert_eq!(infer(&[MOV, LAST], 4, 16), "notes proposed, sweeps: 2");
     let lengths = "refused with 12: the length of the words or of the room for notes is wrong";
@@ -108,6 +144,10 @@ fn inferences() {
     assert_eq!(infer(&[MOV], 4, 8), none);
     let stray = "refused with 3 at instruction 1: a bit is 1 that the instruction has no use for (bit 63)";
     assert_eq!(infer(&[MOV, STRAY], 4, 16), stray);
+    assert_eq!(infer_for(2, &[MOV, LAST], 4, 4, 32), "notes proposed, sweeps: 2");
+    assert_eq!(infer_for(2, &[LAST], 4, 0, 16), none);
+    assert_eq!(infer_for(2, &[LAST], 4, 4, 8), lengths);
+    assert_eq!(infer_for(3, &[LAST], 4, 4, 16), "refused with 11: the version is neither 1 nor 2");
     let large = Inference::Refused { number: 6, place: 36, index: 2047, register: 64 };
     let sentence = "refused with 6 at instruction 2047: a modifier has an illegal value (bit 36)";
     assert_eq!(large.to_string(), sentence);

@@ -4,9 +4,9 @@
 mod common;
 
 use common::{Tally, compare_fresh, compare_write, form};
-use inputs::{BRANCH, Rng, instruction, misfit, parcel};
+use inputs::{BRANCH, Rng, instruction, misfit, parcel, parcel_2};
 use reference::{ROW_COUNT, ROWS};
-use vsp::{Form, Verdict};
+use vsp::{Form, Half, Verdict};
 
 fn rows() -> std::ops::Range<u8> {
     0..ROW_COUNT as u8
@@ -142,18 +142,22 @@ fn fresh_instructions() {
     }
 }
 
-/// The verdict on an instruction alone, with flow `end`, an empty entry set and an empty note.
+/// The verdict on an instruction alone, with flow `end`, an empty entry set and an empty note; it
+/// is the same in both versions.
 fn trial(form: Form) -> Verdict {
     let mut word = [0; 8];
     vsp::write(&Form { flow: 15, ..form }, &mut word).unwrap();
-    vsp::check(&parcel(0, &[u64::from_le_bytes(word)], &[0]))
+    let word = u64::from_le_bytes(word);
+    let verdict = vsp::check(&parcel(0, &[word], &[0]));
+    assert_eq!(vsp::check(&parcel_2([0, 0], &[word], &[[0, 0]])), verdict);
+    verdict
 }
 
 /// Constant entry 0 in each source that the row has, 0 in the others; nothing is read. On r0 rows
 /// with a source are refused with 20.
 #[test]
 fn fresh_instructions_are_accepted() {
-    let refused = Verdict::Refused { number: 20, place: 0, index: 0, register: 0 };
+    let refused = Verdict::Refused { number: 20, place: 0, index: 0, register: 0, half: Some(Half::Low) };
     for (number, row) in ROWS.iter().enumerate() {
         let fresh = vsp::fresh(number as u64).unwrap();
         let mut sources = [0xC0; 4];

@@ -4,10 +4,14 @@
 mod common;
 
 use common::compile;
-use inputs::{Program, Rng, Shape, parcel, refused_word, with_word};
-use reference::{Parcel, Verdict, check, read, text};
+use inputs::{Program, Rng, Set, Shape, both_versions, parcel, parcel_2, refused_word, with_version, with_word};
+use reference::{Half, Parcel, Verdict, check, read, text};
 use std::path::{Path, PathBuf};
 use std::process::{Command, Output};
+
+both_versions! {
+    lists_parcels
+}
 
 /// A file with these bytes beside the program.
 fn input(program: &Path, bytes: &[u8]) -> PathBuf {
@@ -42,25 +46,31 @@ fn expected(bytes: &[u8]) -> String {
     listing
         + &match check(bytes) {
             Verdict::Accepted => "ACCEPTED\n".to_string(),
-            Verdict::Refused { refusal, index, register } => {
+            Verdict::Refused { refusal, index, register, half } => {
                 let (number, place) = (refusal.number(), refusal.place());
-                format!("REFUSED {number} place {place} index {index} register {register}\n")
+                let half = match half {
+                    None => "",
+                    Some(Half::Low) => " low",
+                    Some(Half::High) => " high",
+                };
+                format!("REFUSED {number} place {place} index {index} register {register}{half}\n")
             }
         }
 }
 
-#[test]
-fn lists_parcels() {
-    let program = compile("list.c", "list");
+fn lists_parcels<S: Set>() {
+    let program = compile("list.c", &format!("list-{}", S::VERSION));
     let mut rng = Rng::new(400);
-    let mut cases = vec![parcel(4, &[0x7891_C100_0000_0002], &[4]), Vec::new(), vec![0; 16], vec![1; 40_000]];
+    let mut cases = vec![parcel(4, &[0x7891_C100_0000_0002], &[4]), Vec::new(), vec![0; 16], vec![1; 60_000]];
     for count in [1, 2, 50, 2048] {
         let shape = Shape { count, branches: 10, ends: 0, registers: 16 };
-        let accepted = Program::safe(&mut rng, shape);
+        let accepted = Program::<S>::safe(&mut rng, shape);
         let bytes = accepted.parcel(&accepted.exact());
-        let unheld = accepted.parcel(&vec![0; count]);
+        let unheld = accepted.parcel(&vec![S::NONE; count]);
         let unreadable = with_word(&bytes, count / 2, refused_word(&mut rng, 6).0);
+        let versions = [1, 2, 3].map(|version| with_version(&bytes, version));
         cases.extend([bytes[1..].to_vec(), [&bytes[..], &[0]].concat(), unheld, unreadable, bytes]);
+        cases.extend(versions);
     }
     for bytes in cases {
         let output = list(&program, &bytes);
@@ -103,6 +113,30 @@ fn lists_samples() {
                    0004 7891C00000000042 MOV.i32.end r0, ^r2\n\
                    REFUSED 3 place 8 index 2 register 64\n";
     lists_sample(&program, "stray.vsp", listing, 1);
+}
+
+/// Halves by hand: a write of the high half of r1 and one of its low half, then a read of r1.
+#[test]
+fn lists_halves() {
+    let program = compile("list.c", "list-halves");
+    let words = [0x0091_8100_0000_00C0, 0x0091_4100_0000_00C0, 0x7891_C200_0000_0041];
+    let listing = "0000 00918100000000C0 MOV.i32 r1.h1, 0x0\n\
+                   0001 00914100000000C0 MOV.i32 r1.h0, 0x0\n\
+                   0002 7891C20000000041 MOV.i32.end r2, ^r1\n";
+    let cases = [
+        (parcel(0, &words, &[0, 0, 2]), "REFUSED 22 place 0 index 1 register 1 low"),
+        (parcel(0, &words, &[0, 0, 0]), "REFUSED 20 place 0 index 2 register 1 low"),
+        (parcel_2([0, 0], &words, &[[0, 0], [0, 2], [2, 2]]), "ACCEPTED"),
+        (parcel_2([0, 0], &words, &[[0, 0], [0, 0], [2, 2]]), "REFUSED 22 place 0 index 1 register 1 high"),
+        (parcel_2([0, 0], &words, &[[0, 0], [0, 2], [0, 2]]), "REFUSED 20 place 0 index 2 register 1 low"),
+        (parcel_2([0, 4], &words, &[[4, 4], [0, 2], [2, 2]]), "REFUSED 23 place 0 index 0 register 2 low"),
+        (parcel_2([4, 0], &words, &[[4, 4], [0, 2], [2, 2]]), "REFUSED 23 place 0 index 0 register 2 high"),
+    ];
+    for (bytes, verdict) in cases {
+        let output = list(&program, &bytes);
+        assert_eq!(String::from_utf8_lossy(&output.stdout), format!("{listing}{verdict}\n"));
+        assert_eq!(output.status.code(), Some(i32::from(verdict != "ACCEPTED")), "{verdict}");
+    }
 }
 
 /// A standard output that is full or closed: status 2 and a sentence, whatever the verdict. The

@@ -3,5 +3,7 @@ pub mod FieldLaws
 pub mod ByteLaws
 pub mod SetLaws
 pub mod OutcomeLaws
+pub mod FirstLaws
+pub mod HalfLaws
 pub mod SignedLaws
 pub mod ListLaws

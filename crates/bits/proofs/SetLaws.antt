@@ -200,6 +200,14 @@ no-bit : (s r : ℕ) → (¬ Has s r) → bit s r ≡ 0
 unfolding Has bit
 no-bit s r n = omega (arith, bit-two s r, n)
 
+-- the set without members is 0
+pub empty : (s : ℕ) → ((r : ℕ) → ¬ Has s r) → s ≡ 0
+empty s h = zero-bits s (λ r. no-bit s r (h r))
+
+pub has-none : (r : ℕ) → ¬ Has 0 r
+unfolding Has bit
+has-none r k = omega (arith, k, bits-zero r)
+
 module _ (s : ℕ) (h : s < 2 ^ 64) where
   below-lowest : (r : ℕ) → r < lowest s → ¬ Has s r
   below-lowest r l k = clash (sym (has-true s r k) ∙ lowest-below (has s) 64 0 r (omega arith) l)

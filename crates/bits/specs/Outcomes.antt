@@ -4,8 +4,8 @@
 -- (01, Numbers given back), of which a comparison says whose it is. The call for the rows of an opcode refuses nothing: it gives a row or
 -- says that there is none (02, Item 3).
 use mathlib.Core.Bool.{Bool, true, false}
-use mathlib.Core.List.{List}
-use Prim.Native.Nat.{ℕ}
+use mathlib.Core.List.{List, [], _∷_}
+use Prim.Native.Nat.{ℕ, zero, suc}
 
 -- what a call ends with: a value, or a refusal. R says what a refusal tells: its number, and with it a place, or more.
 pub data Outcome (R A : Type 0) : Type 0 where
@@ -31,3 +31,13 @@ refuses r then b = refuses r
 abbrev pub kept-or : {R A : Type 0} → Outcome R A → List ℕ → List ℕ → List ℕ
 kept-or (gives _) new old = new
 kept-or (refuses _) new old = old
+
+-- the first refusal among f 0 to f (n - 1)
+unfoldable pub first : {R : Type 0} → (ℕ → Outcome R (Unit {0})) → ℕ → Outcome R (Unit {0})
+first f zero = passes
+first f (suc n) = first f n then f n
+
+-- the first refusal along a list
+unfoldable pub each : {R A : Type 0} → (A → Outcome R (Unit {0})) → List A → Outcome R (Unit {0})
+each f [] = passes
+each f (x ∷ xs) = f x then each f xs

@@ -1,6 +1,7 @@
 // The exported functions for C and Rust: numbers, byte slices and fixed arrays only.
 ghost use mathlib.Core.Path.{_≡_};
 ghost use lib.ListN.{length};
+ghost use Rattle.bits.specs.Halves.{halves};
 ghost use Rattle.rows.specs.Names.{name-of};
 ghost use Rattle.opcoderows.specs.Opcodes.{row-with};
 ghost use Rattle.reading.specs.Reader.{read};
@@ -14,6 +15,7 @@ ghost use Rattle.codes.specs.Codes.{outcome-code, verdict-code, infer-code, row
 ghost use Rattle.form.specs.Form.{form-after, write-form, word-after};
 ghost use Rattle.codes.specs.Texts.{text-after, form-text, name-after};
 use bits::bytes::wide;
+use bits::halves::Halves;
 use codec::read_word;
 use codec::write_word;
 use codes::finding_code;
@@ -59,15 +61,21 @@ pub extern "C" fn vsp_check(container: &[u8]) -> u64
     }
 }
 
-// Makes annotations for words and an entry set: 2^16 times the number of sweeps, or the finding as one number, and then the buffer keeps
-// its bytes.
+// Makes annotations of a version for words and an entry set: 2^16 times the number of sweeps, or the finding as one number, and then the
+// buffer keeps its bytes.
 #[no_mangle]
-pub extern "C" fn vsp_infer(words: &[u8], entry: u64, annotations: &mut [u8]) -> u64
-    ensures answer { λ r. ⌜ r ≡ infer-code (infer-outcome (now (words .entry)) entry (now (annotations .entry))) ⌝ }
-    ensures kept { λ r. ⌜ now (annotations .exit) ≡ infer-buffer (now (words .entry)) entry (now (annotations .entry)) ⌝ }
-    ensures asked { λ r. ⌜ AsAsked (now (words .entry)) entry (now (annotations .entry)) (infer-outcome (now (words .entry)) entry (now (annotations .entry))) (now (annotations .exit)) ⌝ }
+pub extern "C" fn vsp_infer(
+    version: u64,
+    words: &[u8],
+    low: u64,
+    high: u64,
+    annotations: &mut [u8],
+) -> u64
+    ensures answer { λ r. ⌜ r ≡ infer-code (infer-outcome version (now (words .entry)) (halves low high) (now (annotations .entry))) ⌝ }
+    ensures kept { λ r. ⌜ now (annotations .exit) ≡ infer-buffer version (now (words .entry)) (halves low high) (now (annotations .entry)) ⌝ }
+    ensures asked { λ r. ⌜ AsAsked version (now (words .entry)) (halves low high) (now (annotations .entry)) (infer-outcome version (now (words .entry)) (halves low high) (now (annotations .entry))) (now (annotations .exit)) ⌝ }
 {
-    let a = infer(words, entry, annotations);
+    let a = infer(version, words, Halves { low, high }, annotations);
     match a {
         Inference::Proposed(k) => 65536 * k as u64,
         Inference::Refused(f) => finding_code(f),

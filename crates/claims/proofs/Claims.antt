@@ -1,5 +1,6 @@
 -- What is proved, on one page: every top theorem by name. The types are the statements; the definitions in them stand in the `specs` folders,
 -- in the order that README gives. The calls are those that users have: their contracts stand at the calls, in `src`. Assumes nothing.
+use mathlib.Core.Bool.{true}
 use mathlib.Core.List.{List}
 use Prim.Native.Nat.{ℕ, suc, _^_, _<_, _≤_}
 use mathlib.Core.Path.{_≡_}
@@ -8,7 +9,7 @@ use lib.Dec.{T}
 use lib.ListN.{length, take}
 use lib.Pow.{areBytes}
 use Rattle.bits.specs.Outcomes.{Outcome, gives, refuses, passes}
-use Rattle.bits.specs.Sets.{Has}
+use Rattle.bits.specs.declared.halves.Halves.{Halves}
 use Rattle.rows.specs.Rows.{row-count}
 use Rattle.rows.specs.Sources.{meaning, Paired}
 use Rattle.sources.proofs.meaning as meaning-call
@@ -38,6 +39,7 @@ use Rattle.codec.proofs.ExamplesHold as examples-met
 use Rattle.codec.proofs.Defaulted as defaulted
 use Rattle.container.proofs.header.«open» as open-call
 use Rattle.container.proofs.parts.annotations as annotations-call
+use Rattle.container.proofs.parts.words as words-call
 use Rattle.view.proofs.word_of as word-call
 use Rattle.view.proofs.word_in as word-in-call
 use Rattle.view.proofs.word_at as word-at-call
@@ -47,17 +49,19 @@ use Rattle.view.proofs.WordLaws as word-laws
 use Rattle.packing.proofs.fit as fit-call
 use Rattle.packing.proofs.pack as pack-call
 use Rattle.packing.proofs.PackLaws as pack-laws
-use Rattle.container.specs.Container.{count-of, entry-of, words-of, annotations-of, eight}
-use Rattle.packing.specs.Packing.{word-count, Fitting, container-bytes, pack-outcome}
+use Rattle.container.specs.Formats.{known}
+use Rattle.container.specs.Container.{version-of, count-of, entry-of, words-of, annotations-of, eight}
+use Rattle.packing.specs.Packing.{word-count, Fitting, taken, container-bytes, pack-outcome}
 use Rattle.bits.specs.Bytes.{little}
 use Rattle.container.specs.Opening.{Rejection, unplaced, open-outcome, Opens}
 use Rattle.view.specs.Words.{word-outcome, open-count}
 use Rattle.container.proofs.NumberedLaws as container-numbers
 use Rattle.view.proofs.WordNumbers as word-refusals
 use Rattle.packing.proofs.NumberedLaws as packing-numbers
+use Rattle.safety.specs.declared.verdict.Reported.the-variants.{Neither}
 use Rattle.safety.specs.declared.verdict.Finding.{Finding}
 use Rattle.safety.specs.Verdict.{Judgement, verdict-of, all-read}
-use Rattle.safety.specs.Program.{Program, machine, WellFormed}
+use Rattle.safety.specs.Program.{Program, Fact, In, machine, WellFormed}
 use Rattle.safety.specs.Reasons.{Reason}
 use Rattle.safety.specs.Passed.{PassesOn}
 use Rattle.safety.proofs.PassedLaws as passed-on
@@ -73,10 +77,15 @@ use Rattle.safety.proofs.NumberedLaws as verifier-numbers
 use Rattle.safety.proofs.Demand3 as demand-3-met
 use Rattle.safety.proofs.ReasonLaws as reasons
 use Rattle.safety.proofs.LazyChecks as lazy-checks
+use Rattle.version1.specs.Demand3 as version-1
+use Rattle.version1.specs.Same.{AsBefore}
+use Rattle.version1.proofs.SameVerdict as same-verdict
+use Rattle.version1.proofs.Demand3Met as version-1-met
+use Rattle.version1.proofs.LazyChecks as version-1-lazy
 use Rattle.sweeps.specs.Sweeps.{note, sweeps}
 use Rattle.infer.specs.Inference.{infer-outcome, infer-buffer}
-use Rattle.infer.specs.Asked.{Maker, Asked}
-use Rattle.infer.specs.Lazy.{AlwaysNone, NamesNothing, LeavesOutTheLast, StopsEarly}
+use Rattle.infer.specs.Asked.{Maker, AskedIn, Asked, LowAlone}
+use Rattle.infer.specs.Lazy.{AlwaysNone, NamesNothing, LeavesOutTheLast, StopsEarly, WholeRegisters}
 use Rattle.infer.proofs.infer as infer-call
 use Rattle.infer.proofs.AskedLaws as inferred
 use Rattle.sweeps.proofs.SweepLaws as sweep-laws
@@ -94,7 +103,9 @@ use Rattle.differences.specs.Lazy.{NeverLists, ListsEveryField}
 use Rattle.diff.proofs.«diff_line» as diff-line-call
 use Rattle.difflist.proofs.«diff_lines» as diff-lines-call
 use Rattle.diff.proofs.«both_read» as both-read-call
+use Rattle.differences.specs.Version1.{Version1AsBoth, Version1AsBefore}
 use Rattle.differences.proofs.AskedLaws as compared
+use Rattle.differences.proofs.VersionLaws as version-laws
 use Rattle.differences.proofs.BitLaws as bit-laws
 use Rattle.differences.proofs.NumberLaws as number-laws
 use Rattle.differences.proofs.LazyComparisons as lazy-comparisons
@@ -162,6 +173,10 @@ module _ {M : Type 1} where
   -- `container::parts::annotations`: the part of the bytes that holds the notes, an empty part where they do not open
   pub lends-annotations : annotations-call.Statement.statement M
   lends-annotations = annotations-call.Met.met
+
+  -- `container::parts::words`: the part of the bytes that holds the words, likewise
+  pub lends-words : words-call.Statement.statement M
+  lends-words = words-call.Met.met
 
   -- `view`: how many instructions there are, the view of a container, and the word at an index of one, of a view that anyone made,
   -- or of bytes with any n, or its refusal
@@ -259,8 +274,8 @@ module _ {M : Type 1} where
   pub c-names : vsp-name-call.Statement.statement M
   c-names = vsp-name-call.Met.met
 
--- the numbers of the refusals are those of the rules: 1 to 7 of reading, 2 and 4 to 9 of writing, 2 of making, 10 to 13 of opening, 12 of
--- packing, 14 of asking for a word, of the check 2 to 7, 10 to 13 and 20 to 23, of the maker 2 to 7, 12 and 24, and of a
+-- the numbers of the refusals are those of the rules: 1 to 7 of reading, 2 and 4 to 9 of writing, 2 of making, 10 to 13 of opening, 11 and 12
+-- of packing, 14 of asking for a word, of the check 2 to 7, 10 to 13 and 20 to 23, of the maker 2 to 7, 11, 12 and 24, and of a
 -- comparison 2 to 7 and 10 to 13
 pub read-refusals : (bs : List ℕ) (f : Refusal) → read bs ≡ refuses f → (1 ≤ f .number) × (f .number ≤ 7)
 read-refusals = reader-numbers.read-numbers
@@ -278,32 +293,32 @@ open-refusals = container-numbers.open-numbers
 pub fetch-refusals : (s : List ℕ) (n i : ℕ) (r : Rejection) → word-outcome s n i ≡ refuses r → r ≡ unplaced 14
 fetch-refusals = word-refusals.word-numbers
 
-pub pack-refusals : (entry : ℕ) (words annotations out : List ℕ) (r : Rejection) → pack-outcome entry words annotations out ≡ refuses r
-    → r ≡ unplaced 12
+pub pack-refusals : (v : ℕ) (entry : Halves) (words annotations out : List ℕ) (r : Rejection) → pack-outcome v entry words annotations out ≡ refuses r
+    → (r ≡ unplaced 11) ⊎ (r ≡ unplaced 12)
 pack-refusals = packing-numbers.pack-numbers
 
 -- a container that is packed opens with the parts that were packed, and one that opens is packed again from its parts
-pub packed-opens : (entry : ℕ) (words annotations : List ℕ) → entry < 2 ^ 64 → Fitting (length words) (length annotations)
-    → open-outcome (container-bytes entry words annotations) ≡ gives (record { count = word-count (length words); entry = entry })
-packed-opens = pack-laws.packed-opens
+module _ (v : ℕ) (entry : Halves) (words annotations : List ℕ) (is-known : known v ≡ true) (fits-in : Fitting v (length words) (length annotations))
+    (low : entry .low < 2 ^ 64) (high : entry .high < 2 ^ 64) where
+  pub packed-opens : open-outcome (container-bytes v entry words annotations)
+      ≡ gives (record { version = v; count = word-count (length words); entry = taken v entry })
+  packed-opens = pack-laws.packed-opens v entry words annotations is-known fits-in low high
 
-pub packed-words : (entry : ℕ) (words annotations : List ℕ) → entry < 2 ^ 64 → Fitting (length words) (length annotations)
-    → words-of (container-bytes entry words annotations) ≡ words
-packed-words = pack-laws.packed-words
+  pub packed-words : words-of (container-bytes v entry words annotations) ≡ words
+  packed-words = pack-laws.packed-words v entry words annotations is-known fits-in low high
 
-pub packed-annotations : (entry : ℕ) (words annotations : List ℕ) → entry < 2 ^ 64 → Fitting (length words) (length annotations)
-    → annotations-of (container-bytes entry words annotations) ≡ annotations
-packed-annotations = pack-laws.packed-annotations
+  pub packed-annotations : annotations-of (container-bytes v entry words annotations) ≡ annotations
+  packed-annotations = pack-laws.packed-annotations v entry words annotations is-known fits-in low high
 
-pub unpacked : (s : List ℕ) → T (areBytes s) → Opens s → container-bytes (entry-of s) (words-of s) (annotations-of s) ≡ s
+pub unpacked : (s : List ℕ) → T (areBytes s) → Opens s → container-bytes (version-of s) (entry-of s) (words-of s) (annotations-of s) ≡ s
 unpacked = pack-laws.unpacked
 
 -- an opened container has a word at each index below its count
 pub fetches-all : (s : List ℕ) → Opens s → (i : ℕ) → i < count-of s → word-outcome s (open-count s) i ≡ gives (little (eight (words-of s) i))
 fetches-all s o = word-laws.opened-word s o
 
-pub infer-refusals : (words : List ℕ) (entry : ℕ) (buffer : List ℕ) (f : Finding) → infer-outcome words entry buffer ≡ refuses f
-    → ((2 ≤ f .number) × (f .number ≤ 7)) ⊎ ((f .number ≡ 12) ⊎ (f .number ≡ 24))
+pub infer-refusals : (v : ℕ) (words : List ℕ) (entry : Halves) (buffer : List ℕ) (f : Finding) → infer-outcome v words entry buffer ≡ refuses f
+    → ((2 ≤ f .number) × (f .number ≤ 7)) ⊎ ((f .number ≡ 11) ⊎ ((f .number ≡ 12) ⊎ (f .number ≡ 24)))
 infer-refusals = infer-numbers.infer-numbers
 
 pub check-refusals : (s : List ℕ) (f : Finding) → verdict-of s ≡ refuses f
@@ -340,59 +355,85 @@ pub not-by-writing-nothing : (reader : List ℕ → Outcome Refusal Instruction)
     → ¬ Demand2 reader writer (λ (i : Instruction) (bs : List ℕ). bs)
 not-by-writing-nothing = demand-2-met.writes-nothing
 
--- ---- Demand 3: what is accepted is safe on every walk, and what is safe, reached and exactly annotated is accepted
-pub demand-3 : Demand3 verdict-of
+-- ---- Demand 3: what is accepted is safe on every walk, and what is safe, reached and exactly annotated is accepted; by halves of registers,
+-- and for each version
+pub demand-3 : (v : ℕ) → Demand3 v verdict-of
 demand-3 = demand-3-met.demand3
 
 -- what a refusal tells is so
 pub refused-for-a-reason : (s : List ℕ) → T (areBytes s) → {f : Finding} → verdict-of s ≡ refuses f → Reason s f
 refused-for-a-reason = reasons.reason
 
--- the two ways of saying that a register is held agree
+-- the two ways of saying that something is held agree
 pub holds-if-supplied : {G : Type 0} (m : Machine G) → HoldsIfSupplied m
 holds-if-supplied m = walk-laws.holds-if-supplied m
 
--- the demand is not met by always accepting, nor by always refusing, nor by a check that accepts whatever one accepts that looks at
--- instruction 0 alone
-pub not-by-accepting : ¬ Demand3 (λ s. passes)
+-- the demand of version 2 is not met by always accepting, nor by always refusing, nor by a check that accepts whatever one accepts that looks
+-- at instruction 0 alone
+pub not-by-accepting : ¬ Demand3 2 (λ s. passes)
 not-by-accepting = lazy-checks.always-yes
 
-pub not-by-refusing-all : (f : List ℕ → Finding) → ¬ Demand3 (λ s. refuses (f s))
+pub not-by-refusing-all : (f : List ℕ → Finding) → ¬ Demand3 2 (λ s. refuses (f s))
 not-by-refusing-all = lazy-checks.always-no
 
-pub not-by-waving-through : (check : List ℕ → Judgement) → WavesThrough check → ¬ Demand3 check
+pub not-by-waving-through : (check : List ℕ → Judgement) → WavesThrough check → ¬ Demand3 2 check
 not-by-waving-through = lazy-checks.only-first
 
--- ---- Item 1 of paper 02, the maker of annotations: what the sweeps propose is accepted, contains whatever is accepted, and is exact where
--- every instruction lies on a walk; 24 exactly where nothing is accepted; a refusal leaves the buffer
+-- ---- Item 7 of paper 02: of bytes that carry version 1 the verdict is the one before there were halves, but for the half that it tells, which
+-- is the low one; and demand 3 as it was then, over registers, holds of it. The same lazy checks don't meet that either.
+pub version-1-as-before : AsBefore verdict-of
+version-1-as-before = same-verdict.as-before
+
+pub demand-3-version-1 : version-1.Demand3 verdict-of
+demand-3-version-1 = version-1-met.demand3
+
+pub not-by-accepting-version-1 : ¬ version-1.Demand3 {F = Finding} (λ s. passes)
+not-by-accepting-version-1 = version-1-lazy.always-yes
+
+pub not-by-refusing-all-version-1 : (f : List ℕ → Finding) → ¬ version-1.Demand3 (λ s. refuses (f s))
+not-by-refusing-all-version-1 = version-1-lazy.always-no
+
+pub not-by-waving-through-version-1 : (check : List ℕ → Judgement) → WavesThrough check → ¬ version-1.Demand3 check
+not-by-waving-through-version-1 = version-1-lazy.only-first
+
+-- ---- Items 1 and 7 of paper 02, the maker of annotations, in each version: what the sweeps propose is accepted, contains whatever is
+-- accepted, and is exact where every instruction lies on a walk; 24 exactly where nothing is accepted; a refusal leaves the buffer
 pub as-asked : Asked (record { answer = infer-outcome; after = infer-buffer })
 as-asked = inferred.inferred
 
+-- in version 1 the low halves that it is lent are the entry set, and the high ones play no part (02, Item 7)
+pub low-alone : LowAlone (record { answer = infer-outcome; after = infer-buffer })
+low-alone = inferred.low-alone
+
 -- there are no more than n + 1 sweeps; `Inference::MOST_SWEEPS` is that for 2048 instructions
-pub sweeps-end : (p : Program) → p .entry < 2 ^ 64 → 0 < p .count → sweeps p ≤ suc (p .count)
+pub sweeps-end : (p : Program) → p .entry .low < 2 ^ 64 → p .entry .high < 2 ^ 64 → 0 < p .count → sweeps p ≤ suc (p .count)
 unfolding machine
-sweeps-end p small some = sweep-laws.proposed p small some .ends
+sweeps-end p low high some = sweep-laws.proposed p (record { low = low; high = high }) some .ends
 
 -- number and notes agree with the definition of the sweeps over any kind of fact
-pub sweeps-reported : (p : Program) → p .entry < 2 ^ 64 → Reports (machine p) (sweeps p)
-sweeps-reported = sweep-laws.reports
+pub sweeps-reported : (p : Program) → p .entry .low < 2 ^ 64 → p .entry .high < 2 ^ 64 → Reports (machine p) (sweeps p)
+sweeps-reported p low high = sweep-laws.reports p (record { low = low; high = high })
 
-pub notes-swept : (p : Program) (k j : ℕ) → j < p .count → (r : ℕ) → (Has (note p k j) r ↔ Note (machine p) k j r)
+pub notes-swept : (p : Program) (k j : ℕ) → j < p .count → (g : Fact) → (In (note p k j) g ↔ Note (machine p) k j g)
 notes-swept = sweep-laws.note-is
 
--- it is not met by a maker that always answers 24, nor by one that proposes no registers, nor by one that leaves the last sweep out of its
--- count, nor by one that stops after the first sweep
-pub not-by-always-24 : (m : Maker) → AlwaysNone m → ¬ Asked m
-not-by-always-24 = lazy-makers.always-none
+-- in a version that there is, it is not met by a maker that always answers 24, nor by one that proposes nothing, nor by one that leaves the
+-- last sweep out of its count, nor by one that stops after the first sweep; and in version 2 not by one that knows whole registers only
+module _ (v : ℕ) (is-known : known v ≡ true) (m : Maker) where
+  pub not-by-always-24 : AlwaysNone v m → ¬ AskedIn v m
+  not-by-always-24 = lazy-makers.always-none v is-known m
 
-pub not-by-naming-nothing : (m : Maker) → NamesNothing m → ¬ Asked m
-not-by-naming-nothing = lazy-makers.names-nothing
+  pub not-by-naming-nothing : NamesNothing v m → ¬ AskedIn v m
+  not-by-naming-nothing = lazy-makers.names-nothing v is-known m
 
-pub not-by-leaving-out-the-last : (m : Maker) → LeavesOutTheLast m → ¬ Asked m
-not-by-leaving-out-the-last = lazy-makers.leaves-out-the-last
+  pub not-by-leaving-out-the-last : LeavesOutTheLast v m → ¬ AskedIn v m
+  not-by-leaving-out-the-last = lazy-makers.leaves-out-the-last v is-known m
 
-pub not-by-stopping-early : (m : Maker) → StopsEarly m → ¬ Asked m
-not-by-stopping-early = lazy-makers.stops-early
+  pub not-by-stopping-early : StopsEarly v m → ¬ AskedIn v m
+  not-by-stopping-early = lazy-makers.stops-early v is-known m
+
+pub not-by-whole-registers : (m : Maker) → WholeRegisters m → ¬ AskedIn 2 m
+not-by-whole-registers = lazy-makers.whole-registers
 
 -- ---- Item 2 of paper 02: value i of a page's enumeration has its low word at entry 32 + 2i and its high word at 33 + 2i; only words of
 -- reserved values are refused, and on page 2 all of them. Demand 2 above is over this rule.
@@ -419,6 +460,14 @@ module _ {M : Type 1} where
 pub compares-as-asked : Compares line-outcome
 compares-as-asked = compared.compares
 
+-- a set of version 1 is compared as both halves, and two containers of version 1 have the list that they had before there were halves
+-- (Item 7)
+pub compared-as-both : Version1AsBoth
+compared-as-both = version-laws.as-both
+
+pub compared-as-before : Version1AsBefore
+compared-as-before = version-laws.as-before
+
 -- what a field of a record holds is what stands there in its word, or 0 where the row lacks the field; and a record that differs differs in
 -- a field
 pub fields-hold-bits : (bs : List ℕ) (x : Instruction) → read bs ≡ gives x → HoldsBits (little bs) x
@@ -443,8 +492,8 @@ pub refused-as-checked : (a b : List ℕ) (u : Unread) → both-read a b ≡ ref
 refused-as-checked = diff-refusals.as-checked
 
 pub compare-refusals : (a b : List ℕ) (u : Unread) → both-read a b ≡ refuses u
-    → (((2 ≤ u .finding .number) × (u .finding .number ≤ 7)) ⊎ ((10 ≤ u .finding .number) × (u .finding .number ≤ 13))) × (u .finding .register ≡ 64)
-compare-refusals a b u e = let h = diff-refusals.both-early a b e in (h .number, h .register)
+    → (((2 ≤ u .finding .number) × (u .finding .number ≤ 7)) ⊎ ((10 ≤ u .finding .number) × (u .finding .number ≤ 13))) × (u .finding .register ≡ 64) × (u .finding .half ≡ Neither)
+compare-refusals a b u e = let h = diff-refusals.both-early a b e in (h .number, h .register, h .half)
 
 -- what the front hands over of a long input is enough: one byte more than the longest container has
 pub compared-by-fronts : (a b : List ℕ) (k : ℕ) → line-outcome (take read-length a) (take read-length b) k ≡ line-outcome a b k

@@ -5,6 +5,7 @@ use mathlib.Core.List.{List}
 use Prim.Native.Nat.{ℕ, _<_, _≤_}
 use lib.ListN.{length, getD}
 use borrow.Author.Tests.{eq-eqb, ne-eqb, lt-ltb, le-ltb}
+use Rattle.bits.specs.declared.halves.Halves.{Halves}
 use Rattle.bits.specs.Outcomes.{Outcome, gives, refuses, passes, _then_}
 use Rattle.rows.specs.Rows.{row-count}
 use Rattle.writing.specs.Writer.{write, stored}
@@ -57,10 +58,10 @@ module _ (f bs : List ℕ) where
       unwritten p e q k = (q ∙ ap outcome-code (e ∙ sym (through p)), k ∙ sym (kept p))
 
 -- the code of what the maker answers
-module _ {words : List ℕ} {entry : ℕ} {buffer : List ℕ} {o : Outcome Finding ℕ} {after : List ℕ} (made : Inferred words entry buffer o after) where
+module _ {v : ℕ} {words : List ℕ} {entry : Halves} {buffer : List ℕ} {o : Outcome Finding ℕ} {after : List ℕ} (made : Inferred v words entry buffer o after) where
   pub proposed : {q : Outcome Finding ℕ} → o ≡ q → {r : ℕ} → r ≡ infer-code q
-      → (r ≡ infer-code (infer-outcome words entry buffer)) × ((after ≡ infer-buffer words entry buffer) × AsAsked words entry buffer (infer-outcome words entry buffer) after)
+      → (r ≡ infer-code (infer-outcome v words entry buffer)) × ((after ≡ infer-buffer v words entry buffer) × AsAsked v words entry buffer (infer-outcome v words entry buffer) after)
   proposed p e = (
     e ∙ ap infer-code (sym p ∙ made .answers),
-    (made .leaves, subst (λ (x : Outcome Finding ℕ). AsAsked words entry buffer x after) (made .answers) (made .asked)),
+    (made .leaves, subst (λ (x : Outcome Finding ℕ). AsAsked v words entry buffer x after) (made .answers) (made .asked)),
   )

@@ -12,7 +12,7 @@ use lib.ListN.{length, getD}
 use mir.Syntax.{w32}
 use mir.Val.{SFits}
 use borrow.Author.Tests.{eqb-true, ltb-true, not-true, not-false}
-use Rattle.bits.specs.Bytes.{little-bytes}
+use Rattle.bits.specs.Halves.{both}
 use Rattle.bits.specs.Outcomes.{Outcome, gives, refuses, passes, require}
 use Rattle.bits.specs.Signed.{unsigned}
 use Rattle.bits.proofs.OutcomeLaws.{never, then-gives, required, Refusals, on, weaker}
@@ -35,12 +35,12 @@ use Rattle.codec.specs.Demand2.{LegalRecord, Offset}
 use Rattle.codec.proofs.Demand2Met.{demand2}
 use Rattle.codec.proofs.LegalRecords.{judged-legal}
 use Rattle.codec.proofs.Defaulted.{default-legal, ended-judged}
-use Rattle.packing.specs.Packing.{container-bytes}
+use Rattle.packing.specs.Packing.{container-bytes, halves-bytes}
 use Rattle.trial.proofs.TrialLaws.{ended-alone}
 use Rattle.safety.specs.declared.verdict.Finding.{Finding}
 use Rattle.safety.specs.Verdict.{Judgement, verdict-of}
 use Rattle.safety.specs.Demand3.{Demand3At}
-use Rattle.safety.proofs.Demand3.{demand3}
+use Rattle.safety.proofs.Demand3.{demand3-at}
 use Rattle.safety.proofs.ProgramLaws.{bytes-below}
 use Rattle.safety.proofs.NumberedLaws.{FromTheRules, verdict-numbers}
 use Rattle.infer.specs.Inference.{infer-outcome}
@@ -81,7 +81,8 @@ no-rule-0 = ⊎-elim (λ b. omega (arith, b .0)) (⊎-elim (λ b. omega (arith, 
 
 infer-zero : (o : Outcome Finding ℕ) → Refusals (λ (f : Finding). FromTheMaker (f .number)) o → (infer-code o % 256 ≡ 0) ↔ ((k : ℕ) × (o ≡ gives k))
 infer-zero (gives k) h = (λ e. (k, refl), λ g. omega arith)
-infer-zero (refuses f) h = (λ e. absurd (⊎-elim (λ b. omega (arith, b, e)) (⊎-elim (λ q. omega (arith, q, e)) (λ q. omega (arith, q, e))) (h f refl)), λ g. never (g .1))
+infer-zero (refuses f) h =
+    (λ e. absurd (⊎-elim (λ b. omega (arith, b, e)) (⊎-elim (λ q. omega (arith, q, e)) (⊎-elim (λ q. omega (arith, q, e)) (λ q. omega (arith, q, e)))) (h f refl)), λ g. never (g .1))
 
 -- a comparison: a refusal has a number of opening or reading and no register, which is 64
 module _ (u : Unread) (h : Early (u .finding)) where
@@ -115,7 +116,7 @@ zero-means-done =
       of-write = λ f buffer. zero-tells (write-form f buffer) (weaker some (form-numbers f buffer));
       of-fresh = λ row. zero-tells (fresh row) (weaker (λ (f : Refusal) (n : f .number ≡ 2). omega (arith, n)) (fresh-numbers row));
       of-check = λ s. verdict-zero (verdict-of s) (weaker (λ (f : Finding) (n : FromTheRules (f .number)). no-rule-0 n) (verdict-numbers s));
-      of-infer = λ words entry buffer. infer-zero (infer-outcome words entry buffer) (infer-numbers words entry buffer);
+      of-infer = λ v words entry buffer. infer-zero (infer-outcome v words entry buffer) (infer-numbers v words entry buffer);
       of-diff-line = λ a b k. line-zero (line-outcome a b k) (λ u e. line-early a b k e);
       of-diff-lines = λ a b. list-zero (list-outcome a b) (λ u e. list-early a b e);
     }
@@ -133,7 +134,7 @@ no-row-means-none opcode k = go (row-with opcode k) refl
 -- so demand 3 holds of a check that answers 0 where it accepts
 pub demanded : (s : List ℕ) → ((k : ℕ) → getD s k 0 < 256) → {r : ℕ} → r ≡ verdict-code (verdict-of s) → Demand3At s (r ≡ 0)
 demanded s h {r} e =
-    let d = demand3 s (bytes-below s h) in
+    let d = demand3-at s (bytes-below s h) in
     let z = zero-means-done .of-check s in
     let accepts : r ≡ 0 → verdict-of s ≡ passes = λ q. z .0 (sym e ∙ q) in
     record {
@@ -189,16 +190,16 @@ unfolding form-of
 ending i = refl
 
 pub fresh-then-accepted : FreshThenAccepted
-fresh-then-accepted k i e buffer l =
+fresh-then-accepted v is-known k i e buffer l =
     let m = fresh-made k i e in
     let x = ended (default-instruction k) in
     let d = judged-legal x (ended-judged k (m .0)) in
     let f : end-set (form-of i) ≡ form-of x = ap (λ (y : Instruction). end-set (form-of y)) (sym (m .1)) ∙ ending (default-instruction k) in
     let w = word-same x d buffer l ∙ stored-word x (ended-judged k (m .0)) buffer l in (
       ap (λ (g : List ℕ). write-form g buffer) f ∙ answer-same x d buffer l ∙ demand2 .back x d buffer l .0,
-      ap (λ (g : List ℕ). verdict-code (verdict-of (container-bytes 0 (word-after g buffer) (little-bytes 8 0)))) f
-          ∙ ap (λ (b : List ℕ). verdict-code (verdict-of (container-bytes 0 b (little-bytes 8 0)))) w
-          ∙ ap verdict-code (ended-alone k (m .0)),
+      ap (λ (g : List ℕ). verdict-code (verdict-of (container-bytes v (both 0) (word-after g buffer) (halves-bytes v (both 0))))) f
+          ∙ ap (λ (b : List ℕ). verdict-code (verdict-of (container-bytes v (both 0) b (halves-bytes v (both 0))))) w
+          ∙ ap verdict-code (ended-alone v is-known k (m .0)),
     )
 
 -- the form of an unpadded form's instruction is that form

@@ -4,6 +4,8 @@ use mathlib.Core.Option.{Option, none, some}
 use Prim.Native.Nat.{ℕ, _+_, _*_, _^_}
 use Rattle.bits.specs.Outcomes.{Outcome, gives, refuses}
 use Rattle.record.specs.declared.answer.Refusal.{Refusal}
+use Rattle.safety.specs.declared.verdict.Reported.{Reported}
+use Rattle.safety.specs.declared.verdict.Reported.the-variants.{Neither, Low, High}
 use Rattle.safety.specs.declared.verdict.Finding.{Finding}
 use Rattle.safety.specs.Verdict.{Judgement}
 use Rattle.differences.specs.declared.line.Line.{Line}
@@ -21,9 +23,15 @@ abbrev pub outcome-code : {A : Type 0} → Outcome Refusal A → ℕ
 outcome-code (gives _) = 0
 outcome-code (refuses f) = code f
 
--- a finding: number + 2^8 place + 2^16 index + 2^32 register
+-- a half: 0 neither, 1 low, 2 high
+abbrev pub half-number : Reported → ℕ
+half-number Neither = 0
+half-number Low = 1
+half-number High = 2
+
+-- a finding: number + 2^8 place + 2^16 index + 2^32 register + 2^40 half
 abbrev pub packed : Finding → ℕ
-packed f = f .number + 2 ^ 8 * f .place + 2 ^ 16 * f .index + 2 ^ 32 * f .register
+packed f = f .number + 2 ^ 8 * f .place + 2 ^ 16 * f .index + 2 ^ 32 * f .register + 2 ^ 40 * half-number (f .half)
 
 -- 0 where the container is accepted, or the finding
 abbrev pub verdict-code : Judgement → ℕ

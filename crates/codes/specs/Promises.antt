@@ -1,12 +1,14 @@
 -- What the header include/vsp.h promises of several calls together. Where a call gives an instruction i, the form it leaves is form-of i;
 -- where a form is written, the buffer is then word-after. Bytes are numbers below 256.
 use mathlib.Core.Path.{_≡_}
+use mathlib.Core.Bool.{true}
 use mathlib.Core.List.{List, _∷_, _++_}
 use mathlib.Core.Logic.{_↔_}
 use mathlib.Core.Option.{none, some}
 use Prim.Native.Nat.{ℕ, _%_, _^_, _<_, _≤_}
 use lib.ListN.{length, getD, take, drop}
-use Rattle.bits.specs.Bytes.{little-bytes}
+use Rattle.bits.specs.Halves.{both}
+use Rattle.bits.specs.declared.halves.Halves.{Halves}
 use Rattle.bits.specs.Outcomes.{Outcome, gives, passes}
 use Rattle.rows.specs.Rows.{row-count}
 use Rattle.rows.specs.Names.{name-of}
@@ -16,7 +18,8 @@ use Rattle.opcoderows.specs.Opcodes.{row-with}
 use Rattle.codec.specs.Demand2.{Given}
 use Rattle.reading.specs.Reader.{read}
 use Rattle.record.specs.Defaults.{fresh}
-use Rattle.packing.specs.Packing.{container-bytes}
+use Rattle.container.specs.Formats.{known}
+use Rattle.packing.specs.Packing.{container-bytes, halves-bytes}
 use Rattle.safety.specs.Verdict.{verdict-of}
 use Rattle.infer.specs.Inference.{infer-outcome}
 use Rattle.differences.specs.declared.line.Line.{Line}
@@ -40,8 +43,8 @@ pub record ZeroMeansDone : Type 0 where
   -- vsp_check: "Gives 0 where the parcel is accepted"
   pub of-check : (s : List ℕ) → (verdict-code (verdict-of s) ≡ 0) ↔ (verdict-of s ≡ passes)
   -- vsp_infer, where it proposes notes: "so that the number is 0". The number is the code's lowest byte.
-  pub of-infer : (words : List ℕ) (entry : ℕ) (buffer : List ℕ)
-      → (infer-code (infer-outcome words entry buffer) % 2 ^ 8 ≡ 0) ↔ ((k : ℕ) × (infer-outcome words entry buffer ≡ gives k))
+  pub of-infer : (v : ℕ) (words : List ℕ) (entry : Halves) (buffer : List ℕ)
+      → (infer-code (infer-outcome v words entry buffer) % 2 ^ 8 ≡ 0) ↔ ((k : ℕ) × (infer-outcome v words entry buffer ≡ gives k))
   -- vsp_diff_line: "Gives 0 and the line's three numbers"
   pub of-diff-line : (a b : List ℕ) (k : ℕ) → (line-code (line-outcome a b k) ≡ 0) ↔ ((l : Line) × (line-outcome a b k ≡ gives (some l)))
   -- vsp_diff_lines: "so that the number is 0". The number is the code's lowest byte.
@@ -73,15 +76,15 @@ FreshThenWritten =
     (row : ℕ) (i : Instruction) → fresh row ≡ gives i → (buffer : List ℕ) → length buffer ≡ 8 → write-form (form-of i) buffer ≡ passes
 
 -- vsp_fresh: "It reads no register: with its flow, byte 2, set to 15 (end), its word alone, with an empty entry set and an empty note, is a
--- parcel that vsp_check accepts."
+-- parcel that vsp_check accepts.", of either version
 abbrev pub end-set : List ℕ → List ℕ
 end-set f = take 2 f ++ (15 ∷ drop 3 f)
 
 abbrev pub FreshThenAccepted : Type 0
 FreshThenAccepted =
-    (row : ℕ) (i : Instruction) → fresh row ≡ gives i → (buffer : List ℕ) → length buffer ≡ 8
+    (v : ℕ) → known v ≡ true → (row : ℕ) (i : Instruction) → fresh row ≡ gives i → (buffer : List ℕ) → length buffer ≡ 8
     → (write-form (end-set (form-of i)) buffer ≡ passes)
-    × (verdict-code (verdict-of (container-bytes 0 (word-after (end-set (form-of i)) buffer) (little-bytes 8 0))) ≡ 0)
+    × (verdict-code (verdict-of (container-bytes v (both 0) (word-after (end-set (form-of i)) buffer) (halves-bytes v (both 0)))) ≡ 0)
 
 -- vsp_text: "the length of the text without the 0, which is never 0"
 abbrev pub TextNeverEmpty : Type 0

@@ -1,2 +1,3 @@
+pub mod FormatLaws
 pub mod OpeningLaws
 pub mod NumberedLaws

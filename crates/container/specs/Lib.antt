@@ -1,2 +1,3 @@
+pub mod Formats
 pub mod Container
 pub mod Opening

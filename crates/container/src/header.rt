@@ -1,16 +1,20 @@
-use crate::layout::ANNOTATION_LENGTH;
-use crate::layout::HEADER_LENGTH;
-use crate::layout::MOST_INSTRUCTIONS;
-use crate::layout::WORD_LENGTH;
+use crate::format::container_length;
+use crate::format::format_of;
+use crate::format::known;
+use crate::layout::SHORTEST_HEADER;
 use bits::bytes::load64;
 use bits::bytes::wide;
+use bits::halves::Halves;
 ghost use mathlib.Core.Path.{_≡_};
 ghost use Prim.Native.Nat.{_+_, _*_, _<_, _≤_};
 ghost use lib.ListN.{length};
-ghost use Rattle.container.specs.Container.{header-length, marked};
+ghost use Rattle.bits.specs.Halves.{halves};
+ghost use Rattle.container.specs.Formats.{shortest-header};
+ghost use Rattle.container.specs.Container.{marked, number, version-of};
 ghost use Rattle.container.specs.Opening.{opening-outcome, open-outcome};
 
-const VERSION: u64 = 1;
+// Where the entry set begins.
+const ENTRY: usize = 8;
 
 // The numbers of the refusals, by reason.
 const TOO_SHORT: u8 = 12;
@@ -25,10 +29,11 @@ const WRONG_COUNT: u8 = 12;
 
 const WRONG_LENGTH: u8 = 12;
 
-// How many instructions there are, and the entry set: the registers that are defined before the first.
+// The version, how many instructions there are, and the entry set: the halves of registers that are defined before the first.
 pub struct Header {
+    pub version: u64,
     pub count: usize,
-    pub entry: u64,
+    pub entry: Halves,
 }
 
 // What opening finds: the header, or the number of a refusal.
@@ -46,23 +51,45 @@ fn number16(low: u8, high: u8) -> u64
 
 // Whether the mark stands at the front.
 fn has_mark(bytes: &[u8]) -> bool
-    requires { ⌜ header-length ≤ length (now bytes) ⌝ }
+    requires { ⌜ shortest-header ≤ length (now bytes) ⌝ }
     ensures { λ r. ⌜ r ≡ marked (now (bytes .entry)) ⌝ }
 {
     bytes[0] == b'V' && bytes[1] == b'S' && bytes[2] == b'P'
+}
+
+// The version that the bytes carry, whether there is such a version or not.
+pub fn version_in(bytes: &[u8]) -> u64
+    requires { ⌜ shortest-header ≤ length (now bytes) ⌝ }
+    ensures { λ r. ⌜ r ≡ version-of (now (bytes .entry)) ⌝ }
+{
+    number16(bytes[3], bytes[4])
+}
+
+// The set of halves from `start` on, with that of the high halves `high` bytes after that of the low ones.
+pub fn halves_in(bytes: &[u8], start: usize, high: usize) -> Halves
+    requires { ⌜ start + high + 8 ≤ length (now bytes) ⌝ }
+    ensures { λ r. ⌜ r ≡ halves (number (now (bytes .entry)) start 8) (number (now (bytes .entry)) (start + high) 8) ⌝ }
+{
+    let low_end = start + 8;
+    let high_start = start + high;
+    let high_end = high_start + 8;
+    let low = load64(&bytes[start..low_end]);
+    let high = load64(&bytes[high_start..high_end]);
+    Halves { low, high }
 }
 
 // Opens a container. No word is looked at.
 pub fn open(bytes: &[u8]) -> Opening
     ensures { λ r. ⌜ opening-outcome r ≡ open-outcome (now (bytes .entry)) ⌝ }
 {
-    if bytes.len() < HEADER_LENGTH {
+    if bytes.len() < SHORTEST_HEADER {
         return Opening::Refused(TOO_SHORT);
     }
     if !has_mark(bytes) {
         return Opening::Refused(WRONG_MARK);
     }
-    if number16(bytes[3], bytes[4]) != VERSION {
+    let version = version_in(bytes);
+    if !known(version) {
         return Opening::Refused(WRONG_VERSION);
     }
     if bytes[5] != 0 {
@@ -72,14 +99,17 @@ pub fn open(bytes: &[u8]) -> Opening
     if count < 1 {
         return Opening::Refused(WRONG_COUNT);
     }
-    if MOST_INSTRUCTIONS < count {
+    let f = format_of(version);
+    if f.most < count {
         return Opening::Refused(WRONG_COUNT);
     }
-    if bytes.len() != HEADER_LENGTH + (WORD_LENGTH + ANNOTATION_LENGTH) * count {
+    if bytes.len() != container_length(version, count) {
         return Opening::Refused(WRONG_LENGTH);
     }
+    let entry = halves_in(bytes, ENTRY, f.high);
     Opening::Opened(Header {
+        version,
         count,
-        entry: load64(&bytes[8..16]),
+        entry,
     })
 }

@@ -1,29 +1,49 @@
 -- The answers of a comparison by whether both containers open and read. Assumes nothing.
-use mathlib.Core.Path.{_≡_, refl, sym, ap, _∙_, subst}
-use mathlib.Core.List.{List}
+use mathlib.Core.Path.{_≡_, refl, sym, ap, ap₂, _∙_, subst}
+use mathlib.Core.List.{List, [], _∷_, _++_}
 use mathlib.Core.Option.{Option, some}
-use Prim.Native.Nat.{ℕ, _<_, _≤_}
+use Prim.Native.Nat.{ℕ, suc, _-_, _<_, _≤_}
+use native.Mathlib.Omega.{arith}
 use lib.ListN.{length}
 use Rattle.bits.specs.Lists.{kth}
 use Rattle.bits.specs.Outcomes.{Outcome, gives, refuses, passes, _then_, kept-or}
 use Rattle.bits.proofs.OutcomeLaws.{never, then-passed, then-refused, then-gives}
-use Rattle.container.specs.Container.{most-instructions}
+use Rattle.container.specs.Formats.{most-instructions}
 use Rattle.view.specs.Words.{open-count}
 use Rattle.view.proofs.WordLaws.{opened-count}
 use Rattle.safety.specs.declared.verdict.Finding.{Finding}
 use Rattle.safety.specs.Verdict.{Judgement, all-read}
 use Rattle.differences.specs.declared.answer.Side.the-variants.{First, Second}
 use Rattle.differences.specs.declared.answer.Unread.{Unread}
-use Rattle.differences.specs.declared.answer.Ready.{Ready}
-use Rattle.differences.specs.declared.answer.Ready.the-variants.{Both as both-ready, Unread as unready}
 use Rattle.differences.specs.declared.line.Line.{Line}
-use Rattle.differences.specs.Differences.{differences}
+use Rattle.differences.specs.Differences.{version-lines, content-lines, differences}
 use Rattle.differences.specs.Numbers.{front-filled, most-lines}
-use Rattle.differences.specs.Answers.{ready-outcome, of-side, both-read, line-outcome, list-outcome, list-buffer}
+use Rattle.differences.specs.Answers.{of-side, both-read, line-outcome, list-outcome, list-buffer}
 use Rattle.diffparts.specs.served.Parts.{Both, Counted}
 use Rattle.safety.proofs.ReadLaws.{formed}
 use Rattle.differences.proofs.ListLaws.{kth-member}
 use Rattle.diff.proofs.FewLaws.{few-lines, small-index}
+
+-- two containers that are read, with their counts
+pub counted-by : {a b : List ℕ} {n m : ℕ} → Both a b → n ≡ open-count a → m ≡ open-count b → Counted a n b m
+counted-by {a} {b} k en em =
+    record { both = k; first-count = en ∙ opened-count a (k .first .opens); second-count = em ∙ opened-count b (k .second .opens) }
+
+-- the list is the line of the versions, if there is one, and after it what the containers hold
+pub after-version : (a b : List ℕ) {ls : List Line} → ls ≡ version-lines a b → ls ++ content-lines a b ≡ differences a b
+unfolding differences
+after-version a b e = ap (λ (l : List Line). l ++ content-lines a b) e
+
+module _ (a b : List ℕ) {l : Line} (e : l ∷ [] ≡ version-lines a b) (k : ℕ) where
+  pub version-first : k ≡ 0 → kth (differences a b) k ≡ some l
+  unfolding kth
+  version-first h = rw (← after-version a b e, h)
+
+  pub version-before : (k ≡ 0 → ⊥) → kth (content-lines a b) (k - 1) ≡ kth (differences a b) k
+  unfolding kth
+  version-before h =
+      let n : suc (k - 1) ≡ k = omega arith in
+      ap₂ kth (after-version a b e) n
 
 module _ (a b : List ℕ) where
   pub first-bad : {f : Finding} → refuses f ≡ all-read a → _≡_ {A = Outcome Unread (Unit {0})} (refuses (record { side = First; finding = f })) (both-read a b)
@@ -54,14 +74,6 @@ module _ (a b : List ℕ) where
     are-both =
         let p = parts (all-read a) (all-read b) e in
         record { first = formed a (p .0); second = formed b (p .1) }
-
-    pub counted-by : {n m : ℕ} → n ≡ open-count a → m ≡ open-count b → Counted a n b m
-    counted-by en em =
-        record {
-          both = are-both;
-          first-count = en ∙ opened-count a (are-both .first .opens);
-          second-count = em ∙ opened-count b (are-both .second .opens);
-        }
 
     pub line-told : {o : Outcome Unread (Option Line)} (k : ℕ) → o ≡ gives (kth (differences a b) k) → o ≡ line-outcome a b k
     unfolding line-outcome

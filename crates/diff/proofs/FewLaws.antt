@@ -1,25 +1,29 @@
 -- How many lines the list has at most. Assumes nothing.
-use mathlib.Core.Path.{_≡_, refl, subst}
+use mathlib.Core.Path.{_≡_, subst}
 use mathlib.Core.Bool.{Bool, true, false}
-use mathlib.Core.List.{List, [], _∷_, _++_, List·Memᴰ, List·Memᴰ·head, Memᴰ·append-right}
-use Prim.Native.Nat.{ℕ, zero, suc, _+_, _-_, _*_, _<_, _≤_, min}
-use native.Mathlib.Nat.{mul-zero, mul-suc}
+use mathlib.Core.List.{List, [], _∷_, _++_, List·Memᴰ, Memᴰ·append-right}
+use Prim.Native.Nat.{ℕ, zero, suc, _+_, _-_, _*_, _/_, _%_, _<_, _≤_, min}
+use native.Mathlib.Nat.{mul-zero, mul-suc, le-refl, add-le-add}
 use native.Mathlib.Omega.{arith}
 use lib.Dec.{eqb, ltb}
-use lib.ListN.{length, length-append}
+use lib.ListN.{length, getD, length-append}
 use Rattle.bits.specs.Fields.{choose}
-use Rattle.container.specs.Container.{most-instructions, count-of, entry-of}
+use Rattle.container.specs.Formats.{most-instructions}
+use Rattle.container.specs.Container.{version-of, count-of, entry-of}
+use Rattle.container.proofs.FormatLaws.{at-most}
 use Rattle.container.proofs.OpeningLaws.{sized}
 use Rattle.differences.specs.declared.line.What.{What}
-use Rattle.differences.specs.declared.line.What.the-variants.{Entry, Annotation}
+use Rattle.differences.specs.declared.line.What.the-variants.{Entry, Annotation, Version}
 use Rattle.differences.specs.declared.line.Line.{Line}
 use Rattle.differences.specs.Records.{fields, field-count, contents}
-use Rattle.differences.specs.Differences.{line, instruction-of, note-of, where-differs, field-lines, lines-from, shared, instruction-lines, removed-line, added-line, extra-lines, entry-lines, note-lines, differences}
+use Rattle.differences.specs.Differences.{line, instruction-of, where-differs, field-lines, lines-from, lines-of, shared, version-lines, instruction-lines, removed-line, added-line, extra-lines, entry-line, note-line, entry-lines, note-lines, content-lines, differences}
+use Rattle.differences.specs.Sets.{compared, note-of, set-in}
 use Rattle.differences.specs.Numbers.{most-lines}
-use Rattle.differences.specs.Asked.{Differs, at-field, at-removed, at-added, at-entry, at-note}
-use Rattle.diffparts.specs.served.Parts.{Both, longer, part-count, single-lines, singles-from}
+use Rattle.differences.specs.Asked.{Differs, at-version, at-field, at-removed, at-added, at-entry, at-note}
+use Rattle.diffparts.specs.served.Parts.{Both, longer, set-count, part-count, set-line, set-part, single-lines, singles-from}
 use Rattle.differences.proofs.ListLaws.{member-from}
-use Rattle.differences.proofs.DiffersLaws.{fields-length, listed-differs}
+use Rattle.differences.proofs.DiffersLaws.{fields-length, listed-differs, in-version, in-content}
+use Rattle.diffparts.proofs.SingleLaws.{some-sets}
 use Rattle.diff.proofs.WalkLaws.{two-parts}
 
 pub differs-few : (w : What) (i x y : ℕ) → length (where-differs w i x y) ≤ 1
@@ -48,6 +52,14 @@ from-few f b h (suc n) i =
     let e = length-append (f i) (lines-from f (suc i) n) in
     omega (arith, r, e, h i, mul-suc b n)
 
+pub of-few : (f : ℕ → List Line) → ((k : ℕ) → length (f k) ≤ 1) → (ks : List ℕ) → length (lines-of f ks) ≤ length ks
+unfolding lines-of
+of-few f h [] = omega arith
+of-few f h (k ∷ ks) =
+    let r = of-few f h ks in
+    let e = length-append (f k) (lines-of f ks) in
+    omega (arith, r, e, h k)
+
 of-parts : (a b : List ℕ) (p : ℕ) {l : Line} → List·Memᴰ l (lines-from (single-lines a b) p (part-count a b - p)) → List·Memᴰ l (singles-from a b p)
 unfolding singles-from
 of-parts a b p m = m
@@ -63,9 +75,17 @@ module _ (a b : List ℕ) (both : Both a b) where
   unfolding instruction-lines
   instruction-few i = rw (← fields-length) (fields-few i fields (contents (instruction-of a i)) (contents (instruction-of b i)))
 
-  note-few : (i : ℕ) → length (note-lines a b i) ≤ 1
+  -- two lines of sets at most
+  sets-few : (f : ℕ → List Line) → ((k : ℕ) → length (f k) ≤ 1) → length (lines-of f (compared a b)) ≤ 2
+  sets-few f h = omega (arith, of-few f h (compared a b), some-sets (version-of a) (version-of b))
+
+  entry-few : length (entry-lines a b) ≤ 2
+  unfolding entry-lines
+  entry-few = sets-few (entry-line a b) (λ k. differs-few (Entry k) 0 (set-in k (entry-of a)) (set-in k (entry-of b)))
+
+  note-few : (i : ℕ) → length (note-lines a b i) ≤ 2
   unfolding note-lines
-  note-few i = differs-few Annotation i (note-of a i) (note-of b i)
+  note-few i = sets-few (note-line a b i) (λ k. differs-few (Annotation k) i (set-in k (note-of a i)) (set-in k (note-of b i)))
 
   extra-few : length (extra-lines a b) ≤ 1 * (count-of a - count-of b) + 1 * (count-of b - count-of a)
   unfolding extra-lines
@@ -81,49 +101,63 @@ module _ (a b : List ℕ) (both : Both a b) where
       sum e p q = omega (arith, e, p, q)
 
   pub few-lines : length (differences a b) ≤ most-lines
-  unfolding differences
+  unfolding differences content-lines
   few-lines =
       let s = shared a b in
       let x = lines-from (instruction-lines a b) 0 s in
       let z = lines-from (note-lines a b) 0 s in
       let p = from-few (instruction-lines a b) field-count instruction-few s 0 in
-      let q = from-few (note-lines a b) 1 note-few s 0 in
-      let d = differs-few Entry 0 (entry-of a) (entry-of b) in
+      let q = from-few (note-lines a b) 2 note-few s 0 in
+      let v = differs-few Version 0 (version-of a) (version-of b) in
+      let c = length-append (version-lines a b) (content-lines a b) in
       let e = length-append (x ++ extra-lines a b ++ entry-lines a b) z in
       let f = length-append (x ++ extra-lines a b) (entry-lines a b) in
       let g = length-append x (extra-lines a b) in
-      total (count-of a) (count-of b) few-a few-b e f g p extra-few d q
+      total (count-of a) (count-of b) few-a few-b c v e f g p extra-few entry-few q
     where
-      total : (n m : ℕ) {l k j x y d z : ℕ} → n ≤ 2048 → m ≤ 2048 → l ≡ k + z → k ≡ j + d → j ≡ x + y → x ≤ 22 * min n m
-          → y ≤ 1 * (n - m) + 1 * (m - n) → d ≤ 1 → z ≤ 1 * min n m → l ≤ 47105
-      total n m hn hm e f g p q d z = omega (arith, hn, hm, e, f, g, p, q, d, z)
+      total : (n m : ℕ) {t w l k j x y d z : ℕ} → n ≤ 2048 → m ≤ 2048 → t ≡ w + l → w ≤ 1 → l ≡ k + z → k ≡ j + d → j ≡ x + y → x ≤ 22 * min n m
+          → y ≤ 1 * (n - m) + 1 * (m - n) → d ≤ 2 → z ≤ 2 * min n m → t ≤ 49155
+      total n m hn hm c v e f g p q d z = omega (arith, hn, hm, c, v, e, f, g, p, q, d, z)
 
   small : {l : Line} → Differs a b l → l .index < most-instructions
+  small (at-version n) = omega arith
   small (at-field i j h k n) = omega (arith, h, few-a)
   small (at-removed i h k) = omega (arith, k, few-a)
   small (at-added i h k) = omega (arith, k, few-b)
-  small (at-entry n) = omega arith
-  small (at-note i h n) = omega (arith, h, few-a)
+  small (at-entry k m n) = omega arith
+  small (at-note i k h m n) = omega (arith, h, few-a)
 
   pub small-index : {l : Line} → List·Memᴰ l (differences a b) → l .index < most-instructions
   small-index m = small (listed-differs a b m)
 
   pub single-few : (p : ℕ) → length (single-lines a b p) ≤ 1
-  unfolding single-lines
-  single-few p = go (ltb p (count-of a)) (ltb p (count-of b)) (eqb p (longer a b))
+  unfolding single-lines set-part set-line
+  single-few p = go (ltb p (count-of a)) (ltb p (count-of b)) (eqb j 0)
     where
-      go : (s t u : Bool) → length (choose s (removed-line a p) (choose t (added-line b p) (choose u (entry-lines a b) (note-lines a b (p - longer a b - 1))))) ≤ 1
+      j : ℕ
+      j = (p - longer a b) / set-count a b
+
+      k : ℕ
+      k = getD (compared a b) ((p - longer a b) % set-count a b) 0
+
+      go : (s t u : Bool) → length (choose s (removed-line a p) (choose t (added-line b p) (choose u (entry-line a b k) (note-line a b (j - 1) k)))) ≤ 1
       go true t u = omega arith
       go false true u = omega arith
-      go false false true = differs-few Entry 0 (entry-of a) (entry-of b)
-      go false false false = note-few (p - longer a b - 1)
+      go false false true = differs-few (Entry k) 0 (set-in k (entry-of a)) (set-in k (entry-of b))
+      go false false false = differs-few (Annotation k) (j - 1) (set-in k (note-of a (j - 1))) (set-in k (note-of b (j - 1)))
 
-  -- the index of a part's line
-  pub part-index : (p : ℕ) {l : Line} → shared a b ≤ p → p < part-count a b → l ∷ [] ≡ single-lines a b p → l .index < most-instructions
-  part-index p {l} h k e = small-index (subst (List·Memᴰ l) (two-parts a b) (Memᴰ·append-right (lines-from (instruction-lines a b) 0 (shared a b)) (inside here)))
+  -- the extra instructions, and two sets of each annotation and of the entry sets
+  pub few-parts : part-count a b ≤ longer a b + 2 * (shared a b + 1)
+  few-parts =
+      add-le-add (le-refl (longer a b)) (at-most 2 (shared a b + 1) (some-sets (version-of a) (version-of b) .1) (le-refl (shared a b + 1)))
+
+  -- the index of the versions' line, and of a part's line
+  pub version-index : {l : Line} → List·Memᴰ l (version-lines a b) → l .index < most-instructions
+  version-index m = small-index (in-version a b m)
+
+  pub part-index : (p : ℕ) {l : Line} → shared a b ≤ p → p < part-count a b → List·Memᴰ l (single-lines a b p) → l .index < most-instructions
+  part-index p {l} h k m =
+      small-index (in-content a b (subst (List·Memᴰ l) (two-parts a b) (Memᴰ·append-right (lines-from (instruction-lines a b) 0 (shared a b)) inside)))
     where
-      here : List·Memᴰ l (single-lines a b p)
-      here = subst (List·Memᴰ l) e (List·Memᴰ·head refl)
-
-      inside : List·Memᴰ l (single-lines a b p) → List·Memᴰ l (singles-from a b (shared a b))
-      inside q = of-parts a b (shared a b) (member-from (single-lines a b) (part-count a b - shared a b) (shared a b) p h (omega (arith, k, h)) q)
+      inside : List·Memᴰ l (singles-from a b (shared a b))
+      inside = of-parts a b (shared a b) (member-from (single-lines a b) (part-count a b - shared a b) (shared a b) p h (omega (arith, k, h)) m)

@@ -11,7 +11,6 @@ use lib.Seq.{drop-cons}
 use borrow.Author.Tests.{eqb-true, eqb-false, eq-eqb, ne-eqb, ltb-true, ltb-false}
 use Rattle.bits.specs.Fields.{choose}
 use Rattle.bits.specs.Sets.{lowest-from}
-use Rattle.differences.specs.declared.line.What.{What}
 use Rattle.differences.specs.declared.line.What.the-variants.{Row}
 use Rattle.differences.specs.declared.line.Line.{Line}
 use Rattle.differences.specs.Records.{fields, field-count}

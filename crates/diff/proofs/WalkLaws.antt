@@ -1,15 +1,16 @@
--- The steps of a walk along the list of differences. Assumes nothing.
+-- The steps of a walk along what differs. Assumes nothing.
 use mathlib.Core.Path.{_≡_, refl, sym, ap, ap₂, _∙_}
 use mathlib.Core.Bool.{Bool, true, false}
 use mathlib.Core.List.{List, [], _∷_, _++_, append-assoc, append-nil}
 use Prim.Native.Nat.{ℕ, _+_, _-_, _*_, _<_, _≤_, max}
-use native.Mathlib.Nat.{add-zero, sub-zero}
+use native.Mathlib.Nat.{add-zero, zero-add, sub-zero, mul-zero, add-sub-cancel-left}
+use native.Mathlib.Numerals.{add-one}
 use native.Mathlib.Omega.{arith}
 use lib.Dec.{ltb}
 use lib.ListN.{length, getD}
 use borrow.Author.Tests.{eq-eqb, ltb-true, ltb-false}
 use Rattle.bits.specs.Outcomes.{_then_}
-use Rattle.container.specs.Container.{count-of, words-of, eight}
+use Rattle.container.specs.Container.{version-of, count-of, words-of, eight}
 use Rattle.container.specs.Opening.{Opens}
 use Rattle.container.proofs.OpeningLaws.{length-words, length-part}
 use Rattle.reading.specs.Reader.{read, read-number}
@@ -19,13 +20,14 @@ use Rattle.differences.specs.declared.line.What.the-variants.{Row}
 use Rattle.differences.specs.declared.line.Line.{Line}
 use Rattle.diff.specs.declared.cursor.At.{At}
 use Rattle.differences.specs.Records.{fields, field-count, contents}
-use Rattle.differences.specs.Differences.{line, field-lines, lines-from, instruction-of, word-of, shared, instruction-lines, removed-line, added-line, extra-lines, entry-lines, note-lines, differences}
-use Rattle.diffparts.specs.served.Parts.{longer, part-count, single-lines, singles-from}
+use Rattle.differences.specs.Sets.{compared}
+use Rattle.differences.specs.Differences.{line, field-lines, lines-from, instruction-of, word-of, shared, instruction-lines, removed-line, added-line, extra-lines, entry-line, note-line, entry-lines, note-lines, content-lines}
+use Rattle.diffparts.specs.served.Parts.{longer, set-count, part-count, set-line, set-part, single-lines, singles-from}
 use Rattle.diff.specs.served.Cursor.{fields-from, differing-from, told-at, Found, from-instruction, remaining, stage-stepped}
 use Rattle.differences.proofs.DiffersLaws.{contents-length}
-use Rattle.differences.proofs.LineLaws.{lines-step, lines-end, lines-add, lines-shift, lines-same}
+use Rattle.differences.proofs.LineLaws.{lines-step, lines-end, lines-add, lines-shift, lines-same, rows-from, lines-listed}
 use Rattle.diff.proofs.ScanLaws.{none-from, all-fields, first-line}
-use Rattle.diffparts.proofs.SingleLaws.{at-removed, at-added, at-entry, at-note}
+use Rattle.diffparts.proofs.SingleLaws.{some-sets, at-removed, at-added, at-set, at-entry, at-note}
 
 -- a word that stands in a container is read as its eight bytes are
 module _ (s : List ℕ) (o : Opens s) (i : ℕ) (h : i < count-of s) where
@@ -119,7 +121,7 @@ module _ (a b : List ℕ) where
       let q : max (p + 1) (shared a b) ≡ p + 1 = omega arith in
       rw (none-from xs ys 0 field-count (omega arith), lines-end (instruction-lines a b) (p + 1) (shared a b) (omega arith), q)
 
-  -- ---- the whole list
+  -- ---- all that they hold
 
   extras : lines-from (single-lines a b) (shared a b) (longer a b - shared a b) ≡ extra-lines a b
   unfolding extra-lines
@@ -140,48 +142,71 @@ module _ (a b : List ℕ) where
           ap₂ (lines-from (single-lines a b)) x y ∙ lines-same m (n - m) (λ p l k. sym (at-removed a b p (omega (arith, h, k)))) ∙ sym (append-nil _)
           ∙ ap (λ (l : List Line). lines-from (removed-line a) m (n - m) ++ l) (sym (lines-end (added-line b) n m h))
 
-  notes : lines-from (single-lines a b) (longer a b + 1) (shared a b) ≡ lines-from (note-lines a b) 0 (shared a b)
-  notes = ap (λ (p : ℕ). lines-from (single-lines a b) p (shared a b)) (sym (add-zero (longer a b + 1))) ∙ lines-shift (single-lines a b) (note-lines a b) (longer a b + 1) 0 (shared a b) here
-    where
-      back : (j : ℕ) → longer a b + 1 + j - longer a b - 1 ≡ j
-      back j = cancel (longer a b) j
-        where
-          cancel : (x j : ℕ) → x + 1 + j - x - 1 ≡ j
-          cancel x j = omega arith
+  -- the sets, by their places: row 0 is that of the entry sets, and row i + 1 that of the annotations at index i
+  abbrev set-row : ℕ → List Line
+  set-row j = lines-from (λ (k : ℕ). set-line a b j (getD (compared a b) k 0)) 0 (set-count a b)
 
-      here : (j : ℕ) → 0 ≤ j → j < 0 + shared a b → single-lines a b (longer a b + 1 + j) ≡ note-lines a b j
-      here j l k = sym (at-note a b (longer a b + 1 + j) (omega arith) (omega arith) (λ e. omega (arith, e))) ∙ ap (note-lines a b) (back j)
+  entry-row : set-row 0 ≡ entry-lines a b
+  unfolding entry-lines
+  entry-row =
+      lines-listed (entry-line a b) (λ (k : ℕ). set-line a b 0 (getD (compared a b) k 0)) (compared a b) 0
+      (λ k _. ap (λ (x : ℕ). set-line a b 0 (getD (compared a b) x 0)) (zero-add k) ∙ sym (at-entry a b 0 (getD (compared a b) k 0) refl))
 
-  one-entry : lines-from (single-lines a b) (longer a b) 1 ≡ entry-lines a b
+  note-row : (i : ℕ) → set-row (1 + i) ≡ note-lines a b i
+  unfolding note-lines
+  note-row i =
+      let back : 1 + i - 1 ≡ i = omega arith in
+      lines-listed (note-line a b i) (λ (k : ℕ). set-line a b (1 + i) (getD (compared a b) k 0)) (compared a b) 0
+      (λ k _.
+      ap (λ (x : ℕ). set-line a b (1 + i) (getD (compared a b) x 0)) (zero-add k)
+      ∙ sym (at-note a b (1 + i) (getD (compared a b) k 0) (λ e. omega (arith, e)))
+      ∙ ap (λ (x : ℕ). note-line a b x (getD (compared a b) k 0)) back)
+
+  all-rows : lines-from set-row 0 (shared a b + 1) ≡ entry-lines a b ++ lines-from (note-lines a b) 0 (shared a b)
   unfolding lines-from
-  one-entry = append-nil _ ∙ sym (at-entry a b (longer a b) (omega arith) (omega arith) refl)
+  all-rows =
+      rw (add-one (shared a b))
+      (ap₂ (λ (x y : List Line). x ++ y) entry-row (lines-shift set-row (note-lines a b) 1 0 (shared a b) (λ i _ _. note-row i)))
 
-  -- the parts after the instructions that both have are the rest of the list
-  all-singles : singles-from a b (shared a b) ≡ (extra-lines a b ++ entry-lines a b) ++ lines-from (note-lines a b) 0 (shared a b)
+  sets : lines-from (single-lines a b) (longer a b) (set-count a b * (shared a b + 1)) ≡ entry-lines a b ++ lines-from (note-lines a b) 0 (shared a b)
+  unfolding set-part
+  sets =
+      let c = set-count a b in
+      let x = longer a b in
+      let count = c * (shared a b + 1) in
+      ap (λ (p : ℕ). lines-from (single-lines a b) p count) (sym (add-zero x))
+      ∙ lines-shift (single-lines a b) (set-part a b) x 0 count
+      (λ q _ _. sym (at-set a b (x + q) (omega arith) (omega arith)) ∙ ap (set-part a b) (add-sub-cancel-left x q))
+      ∙ ap (λ (q : ℕ). lines-from (set-part a b) q count) (sym (mul-zero c))
+      ∙ rows-from (λ (j k : ℕ). set-line a b j (getD (compared a b) k 0)) c (some-sets (version-of a) (version-of b) .0) 0 (shared a b + 1)
+      ∙ all-rows
+
+  -- the parts after the instructions that both have are the rest of what they hold
+  all-singles : singles-from a b (shared a b) ≡ extra-lines a b ++ (entry-lines a b ++ lines-from (note-lines a b) 0 (shared a b))
   unfolding singles-from
   all-singles =
       let f = single-lines a b in
       let s = shared a b in
-      let k : part-count a b - s ≡ (longer a b - s + 1) + s = counted (longer a b) s (omega arith) in
+      let c = set-count a b * (s + 1) in
+      let k : part-count a b - s ≡ (longer a b - s) + c = counted (longer a b) s c (omega arith) in
       let e : s + (longer a b - s) ≡ longer a b = omega arith in
-      let d : s + (longer a b - s + 1) ≡ longer a b + 1 = omega (arith, e) in
-      ap (lines-from f s) k ∙ lines-add f s (longer a b - s + 1) s
-      ∙ ap₂ (λ (x y : List Line). x ++ y) (lines-add f s (longer a b - s) 1 ∙ ap₂ (λ (x y : List Line). x ++ y) extras (ap (λ (p : ℕ). lines-from f p 1) e ∙ one-entry))
-      (ap (λ (p : ℕ). lines-from f p s) d ∙ notes)
+      ap (lines-from f s) k ∙ lines-add f s (longer a b - s) c
+      ∙ ap₂ (λ (x y : List Line). x ++ y) extras (ap (λ (p : ℕ). lines-from f p c) e ∙ sets)
     where
-      counted : (x s : ℕ) → s ≤ x → x + 1 + s - s ≡ (x - s + 1) + s
-      counted x s h = omega arith
+      counted : (x s c : ℕ) → s ≤ x → x + c - s ≡ (x - s) + c
+      counted x s c h = omega arith
 
-  -- the list: the instructions that both have, and the parts after them
-  pub two-parts : lines-from (instruction-lines a b) 0 (shared a b) ++ singles-from a b (shared a b) ≡ differences a b
-  unfolding differences
+  -- what they hold: the instructions that both have, and the parts after them
+  pub two-parts : lines-from (instruction-lines a b) 0 (shared a b) ++ singles-from a b (shared a b) ≡ content-lines a b
+  unfolding content-lines
   two-parts =
-      ap (λ (l : List Line). lines-from (instruction-lines a b) 0 (shared a b) ++ l) all-singles
-      ∙ sym (append-assoc (lines-from (instruction-lines a b) 0 (shared a b)) _ _)
-      ∙ ap (λ (l : List Line). l ++ lines-from (note-lines a b) 0 (shared a b)) (sym (append-assoc (lines-from (instruction-lines a b) 0 (shared a b)) _ _))
+      let x = lines-from (instruction-lines a b) 0 (shared a b) in
+      ap (λ (l : List Line). x ++ l) all-singles
+      ∙ sym (append-assoc x (extra-lines a b) _)
+      ∙ sym (append-assoc (x ++ extra-lines a b) (entry-lines a b) _)
 
   -- before the first line all of it remains
-  pub from-start : (xs ys : List ℕ) → remaining a b (record { index = 0; field = field-count; next = 0 }) xs ys ≡ differences a b
+  pub from-start : (xs ys : List ℕ) → remaining a b (record { index = 0; field = field-count; next = 0 }) xs ys ≡ content-lines a b
   unfolding remaining
   from-start xs ys =
       let s : max 0 (shared a b) ≡ shared a b = omega arith in

@@ -1,4 +1,4 @@
-// A walk along the list of differences, one line at a time.
+// A walk along what differs between two containers, their versions apart, one line at a time.
 ghost use mathlib.Core.Path.{_≡_};
 ghost use Prim.Native.Nat.{ℕ, _<_, _≤_, max};
 ghost use mathlib.Core.List.{List};
@@ -14,6 +14,7 @@ use diffparts::parts::word;
 use diffparts::single::Single;
 use diffparts::single::larger;
 use diffparts::single::line_of_part;
+use diffparts::single::part_count;
 use diffparts::single::smaller;
 
 // Where a walk is: to be told are the fields from `field` on of the instruction `index`, and after them the parts from `next` on.
@@ -23,7 +24,7 @@ pub struct At {
     pub next: usize,
 }
 
-// The next line and where the walk is after it, or the end of the list.
+// The next line and where the walk is after it, or the end.
 pub enum Step {
     Told(Line, At),
     End,
@@ -144,7 +145,7 @@ fn step_singles<'a>(first: &'a [u8], n: usize, second: &'a [u8], m: usize, from:
     requires { ⌜ Counted (now first) n (now second) m × (shared-of (now first) (now second) ≤ from) ⌝ }
     ensures { λ r. ⌜ ((xs ys : List ℕ) → stepped (now (first .entry)) (now (second .entry)) r xs ys ≡ singles-from (now (first .entry)) (now (second .entry)) from) ⌝ }
 {
-    let end = larger(n, m) + 1 + smaller(n, m);
+    let end = part_count(first, n, second, m);
     let mut p = from;
     while p < end {
         match line_of_part(first, n, second, m, p) {
@@ -163,7 +164,7 @@ fn step_singles<'a>(first: &'a [u8], n: usize, second: &'a [u8], m: usize, from:
     Step::End
 }
 
-// The next line of the list of two containers of n and m instructions that open and read.
+// The next line of what two containers of n and m instructions hold that open and read.
 pub fn advance<'a>(
     first: &'a [u8],
     n: usize,

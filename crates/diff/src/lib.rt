@@ -8,15 +8,17 @@ use differences::answer::Ready;
 use differences::answer::Side;
 use differences::answer::Unread;
 use differences::line::FIELDS;
+use diffparts::single::Single;
+use diffparts::single::version_line;
 use safety::verdict::Verdict;
 use verifier::read_all;
 use view::open_count;
 ghost use mathlib.Core.Path.{_≡_};
 ghost use Rattle.bits.specs.Lists.{kth};
 ghost use Rattle.bits.specs.Outcomes.{gives};
-ghost use Rattle.differences.specs.Differences.{differences};
+ghost use Rattle.differences.specs.Differences.{content-lines, differences};
 ghost use Rattle.differences.specs.Answers.{compared-outcome, ready-outcome, both-read, line-outcome};
-ghost use Rattle.diffparts.specs.served.Parts.{Counted};
+ghost use Rattle.diffparts.specs.served.Parts.{Both, Counted};
 
 pub mod cursor;
 
@@ -44,7 +46,7 @@ pub fn both_read<'a>(first: &'a [u8], second: &'a [u8]) -> Ready
     }
 }
 
-// Line k, by a walk from the front.
+// Line k of what they hold, by a walk from the front.
 fn walk_to<'a>(
     first: &'a [u8],
     n: usize,
@@ -55,7 +57,7 @@ fn walk_to<'a>(
     ys: &mut Contents,
 ) -> Compared
     requires { ⌜ Counted (now first) n (now second) m ⌝ }
-    ensures { λ r. ⌜ compared-outcome r ≡ gives (kth (differences (now (first .entry)) (now (second .entry))) k) ⌝ }
+    ensures { λ r. ⌜ compared-outcome r ≡ gives (kth (content-lines (now (first .entry)) (now (second .entry))) k) ⌝ }
 {
     let mut at = At::START;
     let mut i = 0;
@@ -76,24 +78,46 @@ fn walk_to<'a>(
     }
 }
 
+// The same of two containers that open and read.
+fn content_line<'a>(first: &'a [u8], second: &'a [u8], k: usize) -> Compared
+    requires { ⌜ Both (now first) (now second) ⌝ }
+    ensures { λ r. ⌜ compared-outcome r ≡ gives (kth (content-lines (now (first .entry)) (now (second .entry))) k) ⌝ }
+{
+    let mut xs = [0; FIELDS];
+    let mut ys = [0; FIELDS];
+    walk_to(
+        first,
+        open_count(first),
+        second,
+        open_count(second),
+        k,
+        &mut xs,
+        &mut ys,
+    )
+}
+
+// Line k of their list: where the versions differ, these come first.
+fn list_line<'a>(first: &'a [u8], second: &'a [u8], k: usize) -> Compared
+    requires { ⌜ Both (now first) (now second) ⌝ }
+    ensures { λ r. ⌜ compared-outcome r ≡ gives (kth (differences (now (first .entry)) (now (second .entry))) k) ⌝ }
+{
+    match version_line(first, second) {
+        Single::Told(line) => {
+            if k == 0 {
+                return Compared::Line(line);
+            }
+            content_line(first, second, k - 1)
+        }
+        Single::Nothing => content_line(first, second, k),
+    }
+}
+
 // Line k of the list of differences, from 0.
 pub fn diff_line<'a>(first: &'a [u8], second: &'a [u8], k: usize) -> Compared
     ensures { λ r. ⌜ compared-outcome r ≡ line-outcome (now (first .entry)) (now (second .entry)) k ⌝ }
 {
     match both_read(first, second) {
-        Ready::Both => {
-            let mut xs = [0; FIELDS];
-            let mut ys = [0; FIELDS];
-            walk_to(
-                first,
-                open_count(first),
-                second,
-                open_count(second),
-                k,
-                &mut xs,
-                &mut ys,
-            )
-        }
+        Ready::Both => list_line(first, second, k),
         Ready::Unread(u) => Compared::Unread(u),
     }
 }

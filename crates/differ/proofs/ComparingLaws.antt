@@ -13,8 +13,9 @@ use Rattle.bits.specs.Lists.{kth}
 use Rattle.bits.specs.Outcomes.{refuses}
 use Rattle.differences.specs.declared.line.Line.{Line}
 use Rattle.differences.specs.declared.answer.Unread.{Unread}
-use Rattle.differences.specs.Differences.{differences}
+use Rattle.differences.specs.Differences.{version-lines, content-lines, differences}
 use Rattle.differences.specs.Answers.{both-read}
+use Rattle.diff.proofs.AnswerLaws.{after-version}
 use Rattle.input.specs.declared.Input.{Input}
 use Rattle.input.specs.declared.Input.the-variants.{Bytes}
 use Rattle.differ.specs.Comparing.{length-in, ready, listed, Parted}
@@ -89,6 +90,14 @@ module _ {input : Input} {s first second : List ℕ} (p : Parted input s first s
 
   pub unready : {u : Unread} → refuses u ≡ both-read first second → ready s ≡ refuses u
   unready e = ap₂ both-read (sym (p .front)) (sym (p .rest)) ∙ sym e
+
+-- after the line of the versions, if there is one, what the containers hold is left
+module _ (a b : List ℕ) where
+  pub versions-told : {l : Line} → l ∷ [] ≡ version-lines a b → (1 ≤ length (differences a b)) × (content-lines a b ≡ drop 1 (differences a b))
+  versions-told e = let f = after-version a b e in (omega (arith, ap length f), ap (drop 1) f)
+
+  pub versions-same : [] ≡ version-lines a b → content-lines a b ≡ drop 0 (differences a b)
+  versions-same e = after-version a b e
 
 -- one of the lines from k on, and those after it
 pub at-line : (all : List Line) {rest : List Line} {l : Line} (k : ℕ) → l ∷ rest ≡ drop k all → (kth all k ≡ some l) × (k < length all) × (rest ≡ drop (k + 1) all)

@@ -3,9 +3,10 @@
 ghost use mathlib.Core.Path.{_≡_};
 ghost use mathlib.Core.Option.{some};
 ghost use Prim.Native.Nat.{_+_, _-_, _≤_, min};
-ghost use lib.ListN.{length};
+ghost use lib.ListN.{length, drop};
 ghost use Rattle.bits.specs.Lists.{kth};
 ghost use Rattle.bits.specs.Outcomes.{refuses};
+ghost use Rattle.differences.specs.Differences.{content-lines, differences};
 ghost use Rattle.diffparts.specs.served.Parts.{Both, Counted};
 ghost use Rattle.linetext.specs.Lines.{line-text};
 ghost use Rattle.input.specs.declared.Input.the-variants.{Bytes};
@@ -13,10 +14,7 @@ ghost use Rattle.input.specs.Input.{Within};
 ghost use Rattle.verdictline.specs.VerdictLine.{verdict-line};
 ghost use Rattle.differ.specs.Comparing.{length-length, most-read, length-in, ready, listed, side-line, Parted};
 use bits::bytes::load64;
-use container::layout::ANNOTATION_LENGTH;
-use container::layout::HEADER_LENGTH;
-use container::layout::MOST_INSTRUCTIONS;
-use container::layout::WORD_LENGTH;
+use container::layout::LONGEST_CONTAINER;
 use diff::both_read;
 use diff::cursor::At;
 use diff::cursor::Contents;
@@ -28,6 +26,8 @@ use differences::answer::Unread;
 use differences::line::FIELDS;
 use differences::line::Line;
 use differences::numbers::MOST_LINES;
+use diffparts::single::Single;
+use diffparts::single::version_line;
 use difftext::write_line;
 use input::Input;
 use safety::verdict::Verdict;
@@ -38,7 +38,7 @@ use view::open_count;
 const LENGTH_LENGTH: usize = 8;
 
 // One byte more than the longest container: what is longer is refused by this part alone.
-const CONTAINER: usize = HEADER_LENGTH + (WORD_LENGTH + ANNOTATION_LENGTH) * MOST_INSTRUCTIONS + 1;
+const CONTAINER: usize = LONGEST_CONTAINER + 1;
 
 const MOST: usize = LENGTH_LENGTH + 2 * CONTAINER;
 
@@ -77,7 +77,7 @@ fn send_line(bytes: &[u8], input: Input, k: usize, line: Line) -> bool
     send(bytes, input, k, line, &text[..n])
 }
 
-// Sends the lines in turn, until all are sent or a write fails.
+// Sends the lines from line `from` on in turn, those of what the containers hold, until all are sent or a write fails.
 fn walk<'a>(
     bytes: &'a [u8],
     input: Input,
@@ -85,13 +85,14 @@ fn walk<'a>(
     n: usize,
     second: &'a [u8],
     m: usize,
+    from: usize,
     xs: &mut Contents,
     ys: &mut Contents,
 ) -> bool
-    requires { ⌜ Parted input (now bytes) (now first) (now second) × Counted (now first) n (now second) m ⌝ }
+    requires { ⌜ Parted input (now bytes) (now first) (now second) × Counted (now first) n (now second) m × (from ≤ length (differences (now first) (now second))) × (content-lines (now first) (now second) ≡ drop from (differences (now first) (now second))) ⌝ }
 {
     let mut at = At::START;
-    let mut k = 0;
+    let mut k = from;
     while k < MOST_LINES {
         match advance(first, n, second, m, at, xs, ys) {
             Step::Told(line, next) => {
@@ -109,6 +110,30 @@ fn walk<'a>(
     all_sent(bytes, k)
 }
 
+// Sends all lines: first that of the versions, where they differ.
+fn send_all<'a>(
+    bytes: &'a [u8],
+    input: Input,
+    first: &'a [u8],
+    n: usize,
+    second: &'a [u8],
+    m: usize,
+    xs: &mut Contents,
+    ys: &mut Contents,
+) -> bool
+    requires { ⌜ Parted input (now bytes) (now first) (now second) × Counted (now first) n (now second) m ⌝ }
+{
+    match version_line(first, second) {
+        Single::Told(line) => {
+            if !send_line(bytes, input, 0, line) {
+                return false;
+            }
+            walk(bytes, input, first, n, second, m, 1, xs, ys)
+        }
+        Single::Nothing => walk(bytes, input, first, n, second, m, 0, xs, ys),
+    }
+}
+
 // Lists what differs between two containers that open and read.
 fn list<'a>(bytes: &'a [u8], input: Input, first: &'a [u8], second: &'a [u8])
     requires { ⌜ Parted input (now bytes) (now first) (now second) × Both (now first) (now second) ⌝ }
@@ -117,7 +142,7 @@ fn list<'a>(bytes: &'a [u8], input: Input, first: &'a [u8], second: &'a [u8])
     let mut ys = [0; FIELDS];
     let n = open_count(first);
     let m = open_count(second);
-    if !walk(bytes, input, first, n, second, m, &mut xs, &mut ys) {
+    if !send_all(bytes, input, first, n, second, m, &mut xs, &mut ys) {
         tell(b"differ: standard output cannot be written\n");
     }
 }

@@ -1,24 +1,26 @@
 -- The comparison is what the paper asks. Assumes nothing.
 use mathlib.Core.Path.{_≡_, refl, sym, ap, _∙_}
 use mathlib.Core.List.{List}
-use mathlib.Core.Logic.{_↔_, ⊎-elim}
+use mathlib.Core.Logic.{_↔_, _≢_, ⊎-elim}
 use mathlib.Core.Option.{Option, none, some}
 use Prim.Native.Nat.{ℕ}
+use borrow.Author.Tests.{ne-eqb}
 use lib.Dec.{T}
 use lib.Pow.{areBytes}
 use Rattle.bits.specs.Lists.{kth}
 use Rattle.bits.specs.Outcomes.{Outcome, gives, refuses, passes}
 use Rattle.bits.proofs.ListLaws.{kth-stays}
 use Rattle.bits.proofs.OutcomeLaws.{never, then-passed, then-refused, then-refuses}
-use Rattle.container.specs.Container.{count-of, words-of}
+use Rattle.container.specs.Container.{version-of, count-of, words-of}
 use Rattle.safety.specs.declared.verdict.Finding.{Finding}
 use Rattle.safety.specs.Program.{WellFormed}
 use Rattle.safety.specs.Verdict.{all-read}
 use Rattle.safety.specs.Passed.{Unreadable, PassedOn}
 use Rattle.differences.specs.declared.answer.Side.the-variants.{First, Second}
 use Rattle.differences.specs.declared.answer.Unread.{Unread}
+use Rattle.differences.specs.declared.line.What.the-variants.{Version}
 use Rattle.differences.specs.declared.line.Line.{Line}
-use Rattle.differences.specs.Differences.{differences}
+use Rattle.differences.specs.Differences.{line, differences}
 use Rattle.differences.specs.Answers.{of-side, side-of, both-read, line-outcome}
 use Rattle.differences.specs.Asked.{Before, Compares}
 use Rattle.safety.proofs.ReadLaws.{all-of}
@@ -48,6 +50,11 @@ module _ (a b : List ℕ) where
       → PassedOn (words-of (side-of a b (u .side))) (count-of (side-of a b (u .side))) (u .finding)
   unfolding line-outcome
   passed-on k u e = of-words (side-of a b (u .side)) (u .finding) (as-checked a b u (⊎-elim (λ q. q) (λ q. never (sym q)) (then-refuses (both-read a b) (gives (kth (differences a b) k)) u e)))
+
+  -- the first line where the versions differ
+  first-line : version-of a ≢ version-of b → kth (differences a b) 0 ≡ some (line Version 0 (version-of a) (version-of b))
+  unfolding kth differences
+  first-line n = rw (ne-eqb (version-of a) (version-of b) n)
 
   -- where both can, the answer is the line of the list
   module _ (f : WellFormed a) (g : WellFormed b) where
@@ -81,6 +88,7 @@ compares a b t u = record {
   told = λ f g k. (kth (differences a b) k, answered a b f g k);
   true-lines = λ f g k l e. listed-differs a b (kth-member (differences a b) k (line-at a b f g k e));
   all-lines = λ f g l d. let m = member-kth (differs-listed a b d) in (m .0, at-line a b f g (m .0) (m .1));
+  versions-first = λ f g n. at-line a b f g 0 (first-line a b n);
   in-order = λ f g j k l m h d e. ordered-kth Before (differences a b) (differences-ordered a b) j k h (line-at a b f g j d) (line-at a b f g k e);
   no-gap = λ f g j k h e. at-line a b f g k (kth-stays (differences a b) j k (line-at a b f g j e) h);
   equal = λ f g. nothing-listed a b f g t u;

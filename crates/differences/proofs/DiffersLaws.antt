@@ -10,15 +10,16 @@ use borrow.Author.Tests.{eqb-false, ne-eqb}
 use lib.Dec.{eqb}
 use lib.ListN.{length, getD}
 use Rattle.bits.specs.Fields.{choose}
-use Rattle.container.specs.Container.{count-of, entry-of}
+use Rattle.container.specs.Container.{version-of, count-of, entry-of}
 use Rattle.record.specs.declared.instruction.Instruction.{Instruction}
 use Rattle.differences.specs.declared.line.What.{What}
-use Rattle.differences.specs.declared.line.What.the-variants.{Row, Entry, Annotation}
+use Rattle.differences.specs.declared.line.What.the-variants.{Row, Entry, Annotation, Version}
 use Rattle.differences.specs.declared.line.Line.{Line}
 use Rattle.differences.specs.Records.{fields, field-count, contents}
-use Rattle.differences.specs.Differences.{line, where-differs, field-lines, lines-from, instruction-of, note-of, shared, instruction-lines, removed-line, added-line, extra-lines, entry-lines, note-lines, differences}
-use Rattle.differences.specs.Asked.{Differs, at-field, at-removed, at-added, at-entry, at-note}
-use Rattle.differences.proofs.ListLaws.{from-member, member-from}
+use Rattle.differences.specs.Sets.{compared, note-of, set-in}
+use Rattle.differences.specs.Differences.{line, where-differs, field-lines, lines-from, instruction-of, shared, version-lines, instruction-lines, removed-line, added-line, extra-lines, entry-line, note-line, entry-lines, note-lines, content-lines, differences}
+use Rattle.differences.specs.Asked.{Differs, at-version, at-field, at-removed, at-added, at-entry, at-note}
+use Rattle.differences.proofs.ListLaws.{from-member, member-from, of-member, member-of}
 
 -- a line where two numbers differ, and none where they are equal
 module _ (w : What) (i x y : ℕ) where
@@ -98,56 +99,84 @@ module _ (a b : List ℕ) {l : Line} where
   unfolding extra-lines
   extra-true m = ⊎-elim removed-true added-true (List·Memᴰ·append-cases (removed-part a b) m)
 
+  version-true : List·Memᴰ l (version-lines a b) → Differs a b l
+  version-true m = let d = differing Version 0 (version-of a) (version-of b) m in subst (Differs a b) (sym (d .1)) (at-version (d .0))
+
   entry-true : List·Memᴰ l (entry-lines a b) → Differs a b l
-  entry-true m = let d = differing Entry 0 (entry-of a) (entry-of b) m in subst (Differs a b) (sym (d .1)) (at-entry (d .0))
+  unfolding entry-lines
+  entry-true m =
+      let r = of-member (entry-line a b) (compared a b) m in
+      let k = r .0 in
+      let d = differing (Entry k) 0 (set-in k (entry-of a)) (set-in k (entry-of b)) (r .2) in
+      subst (Differs a b) (sym (d .1)) (at-entry k (r .1) (d .0))
 
   note-true : List·Memᴰ l (note-part a b) → Differs a b l
   unfolding note-lines
   note-true m =
       let r = from-member (note-lines a b) (shared a b) 0 m in
-      let d = differing Annotation (r .0) (note-of a (r .0)) (note-of b (r .0)) (r .3) in
-      subst (Differs a b) (sym (d .1)) (at-note (r .0) (omega (arith, r .2)) (d .0))
+      let i = r .0 in
+      let q = of-member (note-line a b i) (compared a b) (r .3) in
+      let k = q .0 in
+      let d = differing (Annotation k) i (set-in k (note-of a i)) (set-in k (note-of b i)) (q .2) in
+      subst (Differs a b) (sym (d .1)) (at-note i k (omega (arith, r .2)) (q .1) (d .0))
 
-  pub listed-differs : List·Memᴰ l (differences a b) → Differs a b l
-  unfolding differences
-  listed-differs m = ⊎-elim early note-true (List·Memᴰ·append-cases (instruction-part a b ++ extra-lines a b ++ entry-lines a b) m)
+  content-true : List·Memᴰ l (content-lines a b) → Differs a b l
+  unfolding content-lines
+  content-true m = ⊎-elim early note-true (List·Memᴰ·append-cases (instruction-part a b ++ extra-lines a b ++ entry-lines a b) m)
     where
       early : List·Memᴰ l (instruction-part a b ++ extra-lines a b ++ entry-lines a b) → Differs a b l
       early q =
           ⊎-elim (λ r. ⊎-elim instruction-true extra-true (List·Memᴰ·append-cases (instruction-part a b) r)) entry-true
           (List·Memᴰ·append-cases (instruction-part a b ++ extra-lines a b) q)
 
+  pub listed-differs : List·Memᴰ l (differences a b) → Differs a b l
+  unfolding differences
+  listed-differs m = ⊎-elim version-true content-true (List·Memᴰ·append-cases (version-lines a b) m)
+
 -- a line of a part is on the list
 module _ (a b : List ℕ) {l : Line} where
-  in-instructions : List·Memᴰ l (instruction-part a b) → List·Memᴰ l (differences a b)
+  pub in-version : List·Memᴰ l (version-lines a b) → List·Memᴰ l (differences a b)
   unfolding differences
+  in-version m = Memᴰ·append-left (content-lines a b) m
+
+  pub in-content : List·Memᴰ l (content-lines a b) → List·Memᴰ l (differences a b)
+  unfolding differences
+  in-content m = Memᴰ·append-right (version-lines a b) m
+
+  in-instructions : List·Memᴰ l (instruction-part a b) → List·Memᴰ l (content-lines a b)
+  unfolding content-lines
   in-instructions m = Memᴰ·append-left (note-part a b) (Memᴰ·append-left (entry-lines a b) (Memᴰ·append-left (extra-lines a b) m))
 
-  in-extra : List·Memᴰ l (extra-lines a b) → List·Memᴰ l (differences a b)
-  unfolding differences
+  in-extra : List·Memᴰ l (extra-lines a b) → List·Memᴰ l (content-lines a b)
+  unfolding content-lines
   in-extra m = Memᴰ·append-left (note-part a b) (Memᴰ·append-left (entry-lines a b) (Memᴰ·append-right (instruction-part a b) m))
 
-  in-entry : List·Memᴰ l (entry-lines a b) → List·Memᴰ l (differences a b)
-  unfolding differences
+  in-entry : List·Memᴰ l (entry-lines a b) → List·Memᴰ l (content-lines a b)
+  unfolding content-lines
   in-entry m = Memᴰ·append-left (note-part a b) (Memᴰ·append-right (instruction-part a b ++ extra-lines a b) m)
 
-  in-notes : List·Memᴰ l (note-part a b) → List·Memᴰ l (differences a b)
-  unfolding differences
+  in-notes : List·Memᴰ l (note-part a b) → List·Memᴰ l (content-lines a b)
+  unfolding content-lines
   in-notes m = Memᴰ·append-right (instruction-part a b ++ extra-lines a b ++ entry-lines a b) m
 
 -- each difference has its line
 module _ (a b : List ℕ) where
   pub differs-listed : {l : Line} → Differs a b l → List·Memᴰ l (differences a b)
-  unfolding instruction-lines extra-lines note-lines
+  unfolding instruction-lines extra-lines entry-lines note-lines
+  differs-listed (at-version n) = in-version a b (differs-to Version 0 (version-of a) (version-of b) n)
   differs-listed (at-field i j h k n) =
       let x = instruction-of a i in
       let y = instruction-of b i in
       let m = fields-to i fields (contents x) (contents y) j (omega (arith, fields-length)) (omega (arith, contents-length x)) (omega (arith, contents-length y)) n in
-      in-instructions a b (member-from (instruction-lines a b) (shared a b) 0 i (omega arith) (omega arith) m)
+      in-content a b (in-instructions a b (member-from (instruction-lines a b) (shared a b) 0 i (omega arith) (omega arith) m))
   differs-listed (at-removed i h k) =
-      in-extra a b (Memᴰ·append-left (added-part a b) (member-from (removed-line a) (count-of a - count-of b) (count-of b) i h (omega arith) (List·Memᴰ·head refl)))
+      in-content a b
+      (in-extra a b (Memᴰ·append-left (added-part a b) (member-from (removed-line a) (count-of a - count-of b) (count-of b) i h (omega arith) (List·Memᴰ·head refl))))
   differs-listed (at-added i h k) =
-      in-extra a b (Memᴰ·append-right (removed-part a b) (member-from (added-line b) (count-of b - count-of a) (count-of a) i h (omega arith) (List·Memᴰ·head refl)))
-  differs-listed (at-entry n) = in-entry a b (differs-to Entry 0 (entry-of a) (entry-of b) n)
-  differs-listed (at-note i h n) =
-      in-notes a b (member-from (note-lines a b) (shared a b) 0 i (omega arith) (omega arith) (differs-to Annotation i (note-of a i) (note-of b i) n))
+      in-content a b
+      (in-extra a b (Memᴰ·append-right (removed-part a b) (member-from (added-line b) (count-of b - count-of a) (count-of a) i h (omega arith) (List·Memᴰ·head refl))))
+  differs-listed (at-entry k m n) =
+      in-content a b (in-entry a b (member-of (entry-line a b) (compared a b) m (differs-to (Entry k) 0 (set-in k (entry-of a)) (set-in k (entry-of b)) n)))
+  differs-listed (at-note i k h m n) =
+      let q = member-of (note-line a b i) (compared a b) m (differs-to (Annotation k) i (set-in k (note-of a i)) (set-in k (note-of b i)) n) in
+      in-content a b (in-notes a b (member-from (note-lines a b) (shared a b) 0 i (omega arith) (omega arith) q))

@@ -1,8 +1,10 @@
 pub mod ListLaws
+pub mod SetLaws
 pub mod DiffersLaws
 pub mod OrderLaws
 pub mod RecordLaws
 pub mod BitLaws
+pub mod VersionLaws
 pub mod EqualLaws
 pub mod AskedLaws
 pub mod LazyComparisons

@@ -1,5 +1,5 @@
--- Lists: the k-th and membership, lists in order, and the lines of some indexes. Assumes nothing.
-use mathlib.Core.Path.{_≡_, refl, sym, ap}
+-- Lists: the k-th and membership, lists in order, and the lines of some indexes or sets. Assumes nothing.
+use mathlib.Core.Path.{_≡_, refl, sym, ap, subst}
 use mathlib.Core.List.{List, [], _∷_, _++_, List·Memᴰ, List·Memᴰ·head, List·Memᴰ·tail, List·Memᴰ·not-nil, List·Memᴰ·append-cases, Memᴰ·append-left, Memᴰ·append-right}
 use mathlib.Core.Logic.{⊎-elim}
 use mathlib.Core.Option.{none, some, Option·some-injective, Option·none-ne-some, Option·some-ne-none}
@@ -8,7 +8,7 @@ use native.Mathlib.Nat.{eq-or-lt-of-le, le-of-suc-le-suc, not-suc-le-zero}
 use native.Mathlib.Omega.{arith}
 use Rattle.bits.specs.Lists.{kth}
 use Rattle.differences.specs.declared.line.Line.{Line}
-use Rattle.differences.specs.Differences.{lines-from}
+use Rattle.differences.specs.Differences.{lines-from, lines-of}
 
 -- what is the k-th is a member, and a member is the k-th for some k
 pub kth-member : {A : Type 0} (xs : List A) (k : ℕ) {x : A} → kth xs k ≡ some x → List·Memᴰ x xs
@@ -71,3 +71,17 @@ module _ (f : ℕ → List Line) where
   ordered-from R o h (suc n) i =
       ordered-append R (f i) (lines-from f (suc i) n) (o i) (ordered-from R o h n (suc i))
       (λ l m p q. let r = from-member n (suc i) q in h i (r .0) l m (r .1) p (r .3))
+
+-- the lines of some sets
+module _ (f : ℕ → List Line) where
+  pub of-member : (ks : List ℕ) {l : Line} → List·Memᴰ l (lines-of f ks) → (k : ℕ) × List·Memᴰ k ks × List·Memᴰ l (f k)
+  unfolding lines-of
+  of-member [] m = absurd (List·Memᴰ·not-nil m)
+  of-member (k ∷ ks) m =
+      ⊎-elim (λ q. (k, List·Memᴰ·head refl, q)) (λ q. let r = of-member ks q in (r .0, List·Memᴰ·tail (r .1), r .2)) (List·Memᴰ·append-cases (f k) m)
+
+  pub member-of : (ks : List ℕ) {k : ℕ} {l : Line} → List·Memᴰ k ks → List·Memᴰ l (f k) → List·Memᴰ l (lines-of f ks)
+  unfolding lines-of
+  member-of [] m q = absurd (List·Memᴰ·not-nil m)
+  member-of (j ∷ ks) {k} {l} (List·Memᴰ·head e) q = Memᴰ·append-left (lines-of f ks) (subst (λ (n : ℕ). List·Memᴰ l (f n)) e q)
+  member-of (j ∷ ks) (List·Memᴰ·tail m) q = Memᴰ·append-right (f j) (member-of ks m q)

@@ -1,4 +1,4 @@
--- What a refusal of opening or reading tells: a number of theirs, an index of the container and no register. Assumes nothing.
+-- What a refusal of opening or reading tells: a number of theirs, an index of the container, no register and no half. Assumes nothing.
 use mathlib.Core.Path.{_≡_, refl, sym, ap, _∙_, subst}
 use mathlib.Core.List.{List}
 use mathlib.Core.Logic.{_⊎_, inl, inr, ⊎-elim}
@@ -6,18 +6,20 @@ use Prim.Native.Nat.{ℕ, _<_}
 use native.Mathlib.Omega.{arith}
 use lib.ListN.{length}
 use Rattle.bits.specs.Lists.{kth}
-use Rattle.bits.specs.Outcomes.{Outcome, gives, refuses, _then_}
+use Rattle.bits.specs.Outcomes.{Outcome, gives, refuses, _then_, first}
 use Rattle.bits.proofs.OutcomeLaws.{never, told, then-passed, then-refused, then-refuses, Refusals, Between}
+use Rattle.bits.proofs.FirstLaws.{first-refused}
 use Rattle.record.specs.declared.instruction.Instruction.{Instruction}
 use Rattle.record.specs.declared.answer.Refusal.{Refusal}
 use Rattle.reading.specs.Reader.{read}
 use Rattle.container.specs.declared.header.Header.{Header}
-use Rattle.container.specs.Container.{most-instructions, count-of, words-of, eight}
+use Rattle.container.specs.Formats.{most-instructions}
+use Rattle.container.specs.Container.{count-of, words-of, eight}
 use Rattle.container.specs.Opening.{Rejection, open-outcome}
 use Rattle.container.proofs.OpeningLaws.{sized, length-words}
 use Rattle.safety.specs.declared.verdict.Finding.{Finding}
-use Rattle.safety.specs.Verdict.{Judgement, finding, no-register, first, judge-opening, judge-reading, judge-word, verdict-of, all-read}
-use Rattle.safety.proofs.VerdictLaws.{first-refused}
+use Rattle.safety.specs.declared.verdict.Reported.the-variants.{Neither}
+use Rattle.safety.specs.Verdict.{Judgement, no-register, judge-opening, judge-reading, judge-word, verdict-of, all-read}
 use Rattle.safety.proofs.ReadLaws.{refused-first}
 use Rattle.safety.proofs.NumberedLaws.{opened-numbers, whole-words-numbers}
 use Rattle.differences.specs.declared.answer.Side.{Side}
@@ -30,6 +32,7 @@ pub record Early (f : Finding) : Type 0 where
   pub number : Between 2 7 (f .number) ⊎ Between 10 13 (f .number)
   pub index : f .index < most-instructions
   pub register : f .register ≡ no-register
+  pub half : f .half ≡ Neither
 
 module _ (s : List ℕ) where
   opening : (o : Outcome Rejection Header) → open-outcome s ≡ o → Refusals Early (judge-opening o)
@@ -37,18 +40,26 @@ module _ (s : List ℕ) where
   opening (refuses r) q f e =
       let n = opened-numbers s f (ap judge-opening q ∙ e) in
       let t = told e in
-      record { number = inr n; index = omega (arith, ap (λ (x : Finding). x .index) t); register = sym (ap (λ (x : Finding). x .register) t) }
+      record {
+        number = inr n;
+        index = omega (arith, ap (λ (x : Finding). x .index) t);
+        register = sym (ap (λ (x : Finding). x .register) t);
+        half = sym (ap (λ (x : Finding). x .half) t);
+      }
 
-  reading : (i : ℕ) (o : Outcome Refusal Instruction) {f : Finding} → judge-reading i o ≡ refuses f → (f .index ≡ i) × (f .register ≡ no-register)
+  reading : (i : ℕ) (o : Outcome Refusal Instruction) {f : Finding} → judge-reading i o ≡ refuses f
+      → (f .index ≡ i) × (f .register ≡ no-register) × (f .half ≡ Neither)
   reading i (gives x) e = never (sym e)
-  reading i (refuses g) e = let t = told e in (sym (ap (λ (x : Finding). x .index) t), sym (ap (λ (x : Finding). x .register) t))
+  reading i (refuses g) e =
+      let t = told e in
+      (sym (ap (λ (x : Finding). x .index) t), sym (ap (λ (x : Finding). x .register) t), sym (ap (λ (x : Finding). x .half) t))
 
   words : {h : Header} → open-outcome s ≡ gives h → Refusals Early (first (judge-word (words-of s)) (count-of s))
   words q f e =
       let w = first-refused (judge-word (words-of s)) (count-of s) e in
       let n = whole-words-numbers (words-of s) (count-of s) (length-words s q) f e in
       let r = reading (w .0) (read (eight (words-of s) (w .0))) (w .2) in
-      record { number = inl n; index = omega (arith, r .0, w .1, sized s q .few); register = r .1 }
+      record { number = inl n; index = omega (arith, r .0, w .1, sized s q .few); register = r .1; half = r .2 }
 
   pub early : Refusals Early (all-read s)
   unfolding all-read

@@ -5,8 +5,8 @@ ghost use lib.ListN.{getD};
 ghost use Rattle.differences.specs.Records.{fields, field-count};
 ghost use Rattle.differences.specs.declared.line.What.the-variants.{Row as row};
 
-// What differs: a field of an instruction (a source by its index, a modifier by its lowest bit), an instruction that only one has, the
-// entry set, or an annotation (the paper's note).
+// What differs: a field of an instruction (a source by its index, a modifier by its lowest bit), an instruction that only one has, a set of
+// the entry sets or of an annotation (the paper's note) by its number, or the versions.
 pub enum What {
     Row,
     Page,
@@ -16,9 +16,17 @@ pub enum What {
     Modifier(u8),
     Added,
     Removed,
-    Entry,
-    Annotation,
+    Entry(u8),
+    Annotation(u8),
+    Version,
 }
+
+// The numbers of the sets: the one set of version 1, that of the low halves, and that of the high halves.
+pub const ONE_SET: u8 = 0;
+
+pub const LOW_SET: u8 = 1;
+
+pub const HIGH_SET: u8 = 2;
 
 // A line: what differs, at which instruction, and what the first and the second container have there.
 pub struct Line {

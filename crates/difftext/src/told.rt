@@ -1,4 +1,6 @@
 // What a line tells: the index, what differs there, and the contents.
+use differences::line::HIGH_SET;
+use differences::line::LOW_SET;
 use differences::line::Line;
 use differences::line::What;
 use linetext::put_both;
@@ -16,7 +18,7 @@ ghost use lib.ListN.{length};
 ghost use Rattle.differences.specs.declared.line.What.the-variants.{Row};
 ghost use Rattle.rows.specs.Names.{ascii, names as all-names};
 ghost use Rattle.text.specs.Text.{space, decimal, Put};
-ghost use Rattle.linetext.specs.Lines.{head, both, word-text, modifier-digits, told as told-of, longest-told};
+ghost use Rattle.linetext.specs.Lines.{head, both, word-text, modifier-digits, set-name, told as told-of, longest-told};
 
 // The most bytes that these have.
 const ROW: usize = 1 + 2 + 1 + WIDTH;
@@ -73,13 +75,49 @@ fn put_extra(names: &Names, index: usize, label: &[u8], word: u64, out: &mut [u8
     at + put_word(names, word, &mut out[at..])
 }
 
-// The entry sets.
-fn put_entry(first: u64, second: u64, out: &mut [u8]) -> usize
-    requires { ⌜ longest-told ≤ length (now out) ⌝ }
-    ensures { λ r. ⌜ Put (ascii "entry" ++ both 16 first second) (now (out .entry)) (now (out .exit)) r × (r ≤ longest-told) ⌝ }
+// Which set: nothing where it is the one set of version 1.
+fn put_set_name(k: u8, out: &mut [u8]) -> usize
+    requires { ⌜ 5 ≤ length (now out) ⌝ }
+    ensures { λ r. ⌜ Put (set-name k) (now (out .entry)) (now (out .exit)) r × (r ≤ 5) ⌝ }
 {
-    let at = put_text(b"entry", out);
-    at + put_both(16, first, second, &mut out[at..])
+    if k == LOW_SET {
+        return put_text(b" low", out);
+    }
+    if k == HIGH_SET {
+        return put_text(b" high", out);
+    }
+    0
+}
+
+// Set k of the entry sets.
+fn put_entry(k: u8, first: u64, second: u64, out: &mut [u8]) -> usize
+    requires { ⌜ longest-told ≤ length (now out) ⌝ }
+    ensures { λ r. ⌜ Put (ascii "entry" ++ set-name k ++ both 16 first second) (now (out .entry)) (now (out .exit)) r × (r ≤ longest-told) ⌝ }
+{
+    let mut at = put_text(b"entry", out);
+    at += put_set_name(k, &mut out[at..]);
+    at += put_both(16, first, second, &mut out[at..]);
+    at
+}
+
+// Set k of the annotations at an index.
+fn put_note(index: usize, k: u8, first: u64, second: u64, out: &mut [u8]) -> usize
+    requires { ⌜ longest-told ≤ length (now out) ⌝ }
+    ensures { λ r. ⌜ Put (head index (ascii " note") ++ set-name k ++ both 16 first second) (now (out .entry)) (now (out .exit)) r × (r ≤ longest-told) ⌝ }
+{
+    let mut at = put_head(index, b" note", out);
+    at += put_set_name(k, &mut out[at..]);
+    at += put_both(16, first, second, &mut out[at..]);
+    at
+}
+
+// The versions.
+fn put_version(first: u64, second: u64, out: &mut [u8]) -> usize
+    requires { ⌜ longest-told ≤ length (now out) ⌝ }
+    ensures { λ r. ⌜ Put (ascii "version" ++ both 1 first second) (now (out .entry)) (now (out .exit)) r × (r ≤ longest-told) ⌝ }
+{
+    let at = put_text(b"version", out);
+    at + put_both(1, first, second, &mut out[at..])
 }
 
 // The digits of a modifier: at bit 8 those of a branch offset.
@@ -106,7 +144,8 @@ pub(crate) fn put_told(names: &Names, line: Line, out: &mut [u8]) -> usize
         What::Modifier(p) => put_numbered(i, b" modifier", p, 2, modifier_digits(p), x, y, out),
         What::Added => put_extra(names, i, b" added", y, out),
         What::Removed => put_extra(names, i, b" removed", x, out),
-        What::Entry => put_entry(x, y, out),
-        What::Annotation => put_field(i, b" note", 16, x, y, out),
+        What::Entry(k) => put_entry(k, x, y, out),
+        What::Annotation(k) => put_note(i, k, x, y, out),
+        What::Version => put_version(x, y, out),
     }
 }

@@ -1,7 +1,9 @@
-// Where an instruction goes, what it leaves defined, and whether the annotations bear both out.
-use bits::bytes::load64;
+// Where an instruction goes, which halves of registers it leaves defined, and whether the annotations bear both out.
+use bits::halves::Halves;
+use bits::halves::both;
 use bits::sets::missing;
-use container::layout::ANNOTATION_LENGTH;
+use container::format::format_of;
+use container::header::halves_in;
 use record::instruction::Instruction;
 use safety::verdict::Verdict;
 use safety::verdict::none_missing;
@@ -9,12 +11,10 @@ use safety::verdict::refused;
 ghost use mathlib.Core.Path.{_≡_};
 ghost use Prim.Native.Nat.{_+_, _<_};
 ghost use lib.IntN.{pos, _+ℤ_};
+ghost use Rattle.bits.specs.Outcomes.{each};
 ghost use Rattle.record.specs.Registers.{kills as kills-of};
-ghost use Rattle.safety.specs.Program.{successors, landing, after, annotation-at, Annotated};
-ghost use Rattle.safety.specs.Verdict.{verdict-outcome, each, judge-successor, judge-flow};
-
-// The register of a finding where none is at fault.
-pub const NO_REGISTER: u32 = 64;
+ghost use Rattle.safety.specs.Program.{successors, landing, fills, after, annotation-at, Annotated};
+ghost use Rattle.safety.specs.Verdict.{verdict-outcome, judge-successor, judge-flow};
 
 // The numbers of the refusals, by reason.
 const READ_MISSING: u8 = 20;
@@ -23,12 +23,25 @@ const SUCCESSOR_OUTSIDE: u8 = 21;
 
 const SUCCESSOR_MISSING: u8 = 22;
 
-// What is defined after an instruction before which `held` is.
-fn after(x: Instruction, kills: u64, held: u64) -> u64
-    requires { ⌜ kills ≡ kills-of x ⌝ }
-    ensures { λ r. ⌜ r ≡ after x held ⌝ }
+// What an instruction makes defined, by version.
+pub fn fills(version: u64, x: Instruction) -> Halves
+    ensures { λ r. ⌜ r ≡ fills version x ⌝ }
 {
-    missing(held, kills) | x.defines()
+    if version == 1 {
+        return both(x.defines());
+    }
+    x.writes()
+}
+
+// What is defined after an instruction before which `held` is.
+fn after(version: u64, x: Instruction, kills: u64, held: Halves) -> Halves
+    requires { ⌜ kills ≡ kills-of x ⌝ }
+    ensures { λ r. ⌜ r ≡ after version x held ⌝ }
+{
+    let f = fills(version, x);
+    let low = missing(held.low, kills) | f.low;
+    let high = missing(held.high, kills) | f.high;
+    Halves { low, high }
 }
 
 // The index i + 1 + offset, or n where that is outside 0 to n - 1.
@@ -51,67 +64,79 @@ pub fn branch_target(i: usize, offset: i32, n: usize) -> usize
 }
 
 // The annotation at index i.
-pub fn annotation_at(annotations: &[u8], n: usize, i: usize) -> u64
-    requires { ⌜ Annotated (now annotations) n × (i < n) ⌝ }
-    ensures { λ r. ⌜ r ≡ annotation-at (now (annotations .entry)) i ⌝ }
+pub fn annotation_at(version: u64, annotations: &[u8], n: usize, i: usize) -> Halves
+    requires { ⌜ Annotated version (now annotations) n × (i < n) ⌝ }
+    ensures { λ r. ⌜ r ≡ annotation-at version (now (annotations .entry)) i ⌝ }
 {
-    let start = ANNOTATION_LENGTH * i;
-    let end = start + ANNOTATION_LENGTH;
-    load64(&annotations[start..end])
+    let f = format_of(version);
+    halves_in(annotations, f.annotation * i, f.high)
 }
 
 // Successor j of instruction i, after which `held` is defined.
-fn judge_successor(annotations: &[u8], n: usize, i: usize, held: u64, j: usize) -> Verdict
-    requires { ⌜ Annotated (now annotations) n ⌝ }
-    ensures { λ r. ⌜ verdict-outcome r ≡ judge-successor n (annotation-at (now (annotations .entry))) i held (pos j) ⌝ }
+fn judge_successor(
+    version: u64,
+    annotations: &[u8],
+    n: usize,
+    i: usize,
+    held: Halves,
+    j: usize,
+) -> Verdict
+    requires { ⌜ Annotated version (now annotations) n ⌝ }
+    ensures { λ r. ⌜ verdict-outcome r ≡ judge-successor n (annotation-at version (now (annotations .entry))) i held (pos j) ⌝ }
 {
     if n <= j {
-        return refused(SUCCESSOR_OUTSIDE, 0, i, NO_REGISTER);
+        return refused(SUCCESSOR_OUTSIDE, 0, i);
     }
-    none_missing(SUCCESSOR_MISSING, i, annotation_at(annotations, n, j), held)
+    none_missing(
+        SUCCESSOR_MISSING,
+        i,
+        annotation_at(version, annotations, n, j),
+        held,
+    )
 }
 
 // The successors of instruction i, the fall-through first, where `before` is defined before it.
 fn judge_successors(
+    version: u64,
     annotations: &[u8],
     n: usize,
     i: usize,
     x: Instruction,
     kills: u64,
-    before: u64,
+    before: Halves,
 ) -> Verdict
-    requires { ⌜ Annotated (now annotations) n × (i < n) × (kills ≡ kills-of x) ⌝ }
-    ensures { λ r. ⌜ verdict-outcome r ≡ each (judge-successor n (annotation-at (now (annotations .entry))) i (after x before)) (successors x i) ⌝ }
+    requires { ⌜ Annotated version (now annotations) n × (i < n) × (kills ≡ kills-of x) ⌝ }
+    ensures { λ r. ⌜ verdict-outcome r ≡ each (judge-successor n (annotation-at version (now (annotations .entry))) i (after version x before)) (successors x i) ⌝ }
 {
     if x.ends() {
         return Verdict::Accepted;
     }
-    let held = after(x, kills, before);
-    let next = judge_successor(annotations, n, i, held, i + 1);
+    let held = after(version, x, kills, before);
+    let next = judge_successor(version, annotations, n, i, held, i + 1);
     if !x.branches() {
         return next;
     }
     match next {
         Verdict::Accepted => {
             let j = branch_target(i, x.offset, n);
-            judge_successor(annotations, n, i, held, j)
+            judge_successor(version, annotations, n, i, held, j)
         }
         Verdict::Refused(f) => Verdict::Refused(f),
     }
 }
 
-// Instruction i, which is x, with its annotation taken as what is defined before it.
-pub fn judge_flow(annotations: &[u8], n: usize, i: usize, x: Instruction) -> Verdict
-    requires { ⌜ Annotated (now annotations) n × (i < n) ⌝ }
-    ensures { λ r. ⌜ verdict-outcome r ≡ judge-flow n (annotation-at (now (annotations .entry))) i x ⌝ }
+// Instruction i of a container of a version, which is x, with its annotation taken as what is defined before it.
+pub fn judge_flow(version: u64, annotations: &[u8], n: usize, i: usize, x: Instruction) -> Verdict
+    requires { ⌜ Annotated version (now annotations) n × (i < n) ⌝ }
+    ensures { λ r. ⌜ verdict-outcome r ≡ judge-flow version n (annotation-at version (now (annotations .entry))) i x ⌝ }
 {
-    let before = annotation_at(annotations, n, i);
+    let before = annotation_at(version, annotations, n, i);
     let u = x.uses();
-    let missed = none_missing(READ_MISSING, i, u.reads, before);
+    let missed = none_missing(READ_MISSING, i, both(u.reads), before);
     match missed {
         Verdict::Accepted => {
             let kills = u.kills;
-            judge_successors(annotations, n, i, x, kills, before)
+            judge_successors(version, annotations, n, i, x, kills, before)
         }
         Verdict::Refused(f) => Verdict::Refused(f),
     }

@@ -1,31 +1,34 @@
 -- From words to a proposal: how the sweeps begin, and what they leave. Assumes nothing.
 use mathlib.Core.Path.{_≡_, refl, sym, ap, _∙_}
-use mathlib.Core.Bool.{true}
 use mathlib.Core.List.{List, [], _++_, append-nil}
-use Prim.Native.Nat.{ℕ, zero, suc, _-_, _^_, _<_, _≤_}
+use Prim.Native.Nat.{ℕ, zero, suc, _^_, _<_, _≤_}
 use native.Mathlib.Omega.{arith}
 use lib.ListN.{length, getD, set, take, drop, replicate, drop-of-length-le, length-set, length-take, length-replicate, getD-replicate}
 use lib.Seq.{getD-set-same, getD-set-other, getD-take, take-length}
-use Rattle.bits.specs.Outcomes.{Outcome, gives, refuses, passes, _then_}
+use Rattle.bits.specs.Halves.{Half, lower, upper, half-of, halves, both}
+use Rattle.bits.specs.declared.halves.Halves.{Halves}
+use Rattle.bits.specs.Outcomes.{Outcome, gives, refuses, passes, _then_, first}
+use Rattle.bits.proofs.HalfLaws.{half-of-both}
 use Rattle.bits.proofs.OutcomeLaws.{never, then-passed, then-refused}
-use Rattle.container.specs.Container.{most-instructions}
+use Rattle.container.specs.Formats.{most-instructions}
 use Rattle.safety.specs.declared.verdict.Finding.{Finding}
-use Rattle.safety.specs.Program.{Program, program-in, Worded}
-use Rattle.safety.specs.Verdict.{Judgement, first, judge-word, judge-program}
-use Rattle.sweeps.specs.Sweeps.{all-registers, first-note, note, sweeps, set-bytes, proposal}
+use Rattle.safety.specs.Program.{Program, program-in}
+use Rattle.safety.specs.Verdict.{Judgement, judge-word, judge-program}
+use Rattle.sweeps.specs.Sweeps.{all-registers, first-note, note, sweeps, note-bytes, proposal}
+use Rattle.sweeps.specs.served.Tracks.{half-note}
+use Rattle.sweeps.specs.served.Plan.{Planned, Holds, Full, Begun, BothBegun, BothRested}
+use Rattle.sweeps.proofs.ByteLaws.{notes-ext}
 use Rattle.infer.specs.Inference.{none-acceptable}
-use Rattle.infer.specs.served.Handed.{Swept, Handed}
-use Rattle.sweeps.specs.served.Plan.{Planned, Holds, Full, Begun, Rested}
-use Rattle.sweeps.proofs.ByteLaws.{set-bytes-ext}
+use Rattle.infer.specs.served.Handed.{Ready, Swept, Handed}
 
--- the first notes, from sets of all registers
-first-holds : (p : Program) (l : List ℕ) → 0 < p .count → Full l (p .count) → Holds p 0 (set l 0 (p .entry))
+-- the first notes of a half, from sets of all registers
+first-holds : (p : Program) (h : Half) (l : List ℕ) → 0 < p .count → Full l (p .count) → Holds p h 0 (set l 0 (half-of h (p .entry)))
 unfolding note first-note
-first-holds p l some f = record { long = length-set l 0 (p .entry) ∙ f .long; are = are }
+first-holds p h l some f = record { long = length-set l 0 (half-of h (p .entry)) ∙ f .long; are = are }
   where
-    are : (j : ℕ) → j < p .count → getD (set l 0 (p .entry)) j 0 ≡ note p 0 j
-    are zero h = getD-set-same l 0 (p .entry) 0 (omega (arith, f .long))
-    are (suc j) h = getD-set-other l 0 (suc j) (p .entry) 0 (λ e. omega arith) ∙ f .all (suc j) h
+    are : (j : ℕ) → j < p .count → getD (set l 0 (half-of h (p .entry))) j 0 ≡ half-note p h 0 j
+    are zero q = getD-set-same l 0 (half-of h (p .entry)) 0 (omega (arith, f .long))
+    are (suc j) q = getD-set-other l 0 (suc j) (half-of h (p .entry)) 0 (λ e. omega arith) ∙ f .all (suc j) q ∙ sym (half-of-both h all-registers)
 
 -- a store keeps the length
 pub stored-long : (l : List ℕ) (v : ℕ) {n : ℕ} → length l ≡ n → n ≡ length (set l 0 v)
@@ -46,41 +49,52 @@ full n h = record {
 pub prefix : (v n : ℕ) → n ≤ most-instructions → n ≡ length (take n (replicate list-room v))
 prefix v n h = sym (length-take n (replicate list-room v) ∙ omega (arith, length-replicate list-room v))
 
-module _ (words : List ℕ) (n entry : ℕ) where
+module _ (v : ℕ) (words : List ℕ) (n : ℕ) (entry : Halves) where
   abbrev pub P : Program
-  P = program-in words [] n entry
+  P = program-in v words [] n entry
 
-  -- the entry set plays no part in a plan
-  any-entry : {ks ds fs js : List ℕ} → Planned (program-in words [] n 0) ks ds fs js n → Planned P ks ds fs js n
-  any-entry p = record { kills = p .kills; defines = p .defines; falls = p .falls; jumps = p .jumps }
+  -- the plan of a half, in which the entry set plays no part, and its first notes
+  begins-half : {h : Half} {ks ds fs js l : List ℕ} → Ready v words n entry → entry .low < 2 ^ 64 → entry .high < 2 ^ 64
+      → Planned (program-in v words [] n (both 0)) h ks ds fs js n → Full l n → Begun P h ks ds fs js (set l 0 (half-of h entry))
+  begins-half {h} {l = l} r low high plan f = record {
+    ranged = record { low = low; high = high; few = r .worded .few };
+    plan = record { kills = plan .kills; fills = plan .fills; falls = plan .falls; jumps = plan .jumps };
+    notes = first-holds P h l (r .some) f;
+  }
 
-  pub begins : {ks ds fs js a b : List ℕ} → Worded words n → 0 < n → entry < 2 ^ 64 → Planned (program-in words [] n 0) ks ds fs js n
-      → Full a n → Full b n → Begun P ks ds fs js (set a 0 entry) (set b 0 entry)
-  begins {ks} {ds} {fs} {js} {a} {b} w some small plan f g =
-      record { small = small; few = w .few; plan = any-entry plan; new = first-holds P a some f; notes = first-holds P b some g }
+  pub begins : {ks ls hs fs js a b : List ℕ} → Ready v words n entry → entry .low < 2 ^ 64 → entry .high < 2 ^ 64
+      → Planned (program-in v words [] n (both 0)) lower ks ls fs js n × Planned (program-in v words [] n (both 0)) upper ks hs fs js n
+      → Full a n → Full b n → BothBegun P ks ls hs fs js (set a 0 (entry .low)) (set b 0 (entry .high))
+  begins r low high plan f g = record {
+    is-known = r .is-known;
+    entered = r .entered;
+    low = begins-half {h = lower} r low high (plan .0) f;
+    high = begins-half {h = upper} r low high (plan .1) g;
+  }
 
   -- all words read, and the sweeps have come to rest
-  pub proposes : first (judge-word words) n ≡ passes → {k : ℕ} {l out : List ℕ} → Rested P k l → out ≡ set-bytes (λ j. getD l j 0) (length l)
-      → Swept words n entry (gives k) out
+  pub proposes : first (judge-word words) n ≡ passes → {k : ℕ} {lows highs out : List ℕ} → BothRested P k lows highs
+      → out ≡ note-bytes v (λ j. halves (getD lows j 0) (getD highs j 0)) (length lows) → Swept v words n entry (gives k) out
   unfolding proposal
-  proposes r {k} {l} {out} s e = record {
+  proposes r {k} {lows} {highs} {out} s e = record {
     answers = ap gives (s .counted) ∙ sym (then-passed _ r);
     leaves = λ j q.
-        e ∙ ap (set-bytes (λ j. getD l j 0)) (s .notes .long) ∙ set-bytes-ext (λ j. getD l j 0) (note P (sweeps P)) n (s .notes .are);
+        e ∙ ap (note-bytes v (λ j. halves (getD lows j 0) (getD highs j 0))) (s .long)
+        ∙ notes-ext v (λ j. halves (getD lows j 0) (getD highs j 0)) (note P (sweeps P)) n (s .notes);
   }
 
   -- a word does not read
-  pub refuses-word : {f : Finding} {out : List ℕ} → refuses f ≡ first (judge-word words) n → Swept words n entry (refuses f) out
+  pub refuses-word : {f : Finding} {out : List ℕ} → refuses f ≡ first (judge-word words) n → Swept v words n entry (refuses f) out
   refuses-word e = record { answers = sym (then-refused _ (sym e)); leaves = λ k q. never q }
 
 -- a proposal that the check accepts, and one that it refuses
-module _ (words : List ℕ) (n entry : ℕ) (offer : List ℕ) (k : ℕ) (buffer : List ℕ)
-    {v : Judgement} (e : v ≡ (first (judge-word words) n then judge-program (program-in words offer n entry))) where
-  pub hands-over : v ≡ passes → {after : List ℕ} → after ≡ offer → Handed words n entry offer k buffer (gives k) after
+module _ (v : ℕ) (words : List ℕ) (n : ℕ) (entry : Halves) (offer : List ℕ) (k : ℕ) (buffer : List ℕ)
+    {j : Judgement} (e : j ≡ (first (judge-word words) n then judge-program (program-in v words offer n entry))) where
+  pub hands-over : j ≡ passes → {after : List ℕ} → after ≡ offer → Handed v words n entry offer k buffer (gives k) after
   unfolding _then_
   hands-over p q = record { answers = rw (sym e ∙ p); leaves = q }
 
-  pub holds-back : {f : Finding} → v ≡ refuses f → {r : Outcome Finding ℕ} → r ≡ refuses none-acceptable → Handed words n entry offer k buffer r buffer
+  pub holds-back : {f : Finding} → j ≡ refuses f → {r : Outcome Finding ℕ} → r ≡ refuses none-acceptable → Handed v words n entry offer k buffer r buffer
   unfolding _then_
   holds-back p q = rw q (record { answers = rw (sym e ∙ p); leaves = refl })
 

@@ -1,15 +1,17 @@
 -- The digits of a line say its numbers whole. Assumes nothing.
-use mathlib.Core.Path.{_≡_, ap}
+use mathlib.Core.Path.{_≡_, ap, subst⁻¹}
 use mathlib.Core.Bool.{Bool, true, false}
-use mathlib.Core.List.{List, List·Memᴰ}
-use Prim.Native.Nat.{ℕ, zero, suc, _*_, _^_, _<_, _≤_}
+use mathlib.Core.List.{List, List·Memᴰ, List·Memᴰ·cases-cons, List·Memᴰ·eq-of-singleton}
+use mathlib.Core.Logic.{⊎-elim}
+use Prim.Native.Nat.{ℕ, zero, suc, _+_, _*_, _^_, _<_, _≤_}
 use native.Mathlib.Nat.{lt-of-lt-of-le}
 use native.Mathlib.Omega.{arith}
-use lib.Dec.{T, ltb, leb, leb→le}
+use lib.Dec.{T, eqb, ltb, leb, leb→le}
 use lib.ListN.{length, getD, take, drop, replicate, length-take}
 use lib.Pow.{areBytes, pow-mono}
 use Rattle.bits.specs.Bytes.{little}
 use Rattle.bits.specs.Fields.{choose}
+use Rattle.bits.specs.Halves.{halves}
 use Rattle.bits.specs.Outcomes.{passes}
 use Rattle.bits.proofs.ByteLaws.{little-lt, part-bytes}
 use Rattle.bits.proofs.Every.{every, at}
@@ -24,15 +26,20 @@ use Rattle.record.specs.Legality.{judge-instruction}
 use Rattle.record.specs.declared.instruction.Instruction.{Instruction}
 use Rattle.record.proofs.NumberLaws.{modifier-room, number-room}
 use Rattle.writing.proofs.RoundTrip.{legal-row, legal-roomy, read-legal}
-use Rattle.container.specs.Container.{header-length, word-length, annotation-length, count-of, entry-of, words-of, annotations-of, annotations-start, eight}
+use Rattle.container.specs.Formats.{header-length, word-length, annotation-length, high-offset}
+use Rattle.container.specs.Container.{version-of, count-of, entry-of, words-of, annotations-of, annotations-start, eight}
+use Rattle.container.proofs.FormatLaws.{known-one}
+use Rattle.container.proofs.OpeningLaws.{sized}
 use Rattle.safety.specs.Program.{WellFormed, instruction-in, instruction-at, annotation-at}
 use Rattle.differences.specs.declared.line.What.{What}
 use Rattle.differences.specs.declared.line.What.the-variants.{Row}
 use Rattle.differences.specs.declared.line.Line.{Line}
 use Rattle.differences.specs.Records.{fields, field-count, destination, at-bit-8, contents}
-use Rattle.differences.specs.Differences.{instruction-of, word-of, note-of, differences}
-use Rattle.differences.specs.Asked.{content, Differs, at-field, at-removed, at-added, at-entry, at-note}
+use Rattle.differences.specs.Sets.{sets-of, note-of, set-in}
+use Rattle.differences.specs.Differences.{instruction-of, word-of, differences}
+use Rattle.differences.specs.Asked.{content, Differs, at-version, at-field, at-removed, at-added, at-entry, at-note}
 use Rattle.differences.proofs.ListLaws.{kth-member}
+use Rattle.differences.proofs.SetLaws.{by-sets}
 use Rattle.differences.proofs.DiffersLaws.{fields-length, listed-differs}
 use Rattle.diff.proofs.FewLaws.{small-index}
 use Rattle.linetext.specs.Asked.{sayable, numbered, Shown, ShownWhole}
@@ -120,18 +127,43 @@ part-small s start t =
     let p = take 8 (drop start s) in
     lt-of-lt-of-le (little-lt p (part-bytes s start 8 t)) (small-power (length p) (omega (arith, length-take 8 (drop start s))))
 
+-- either half of a set
+either-small : {x y : ℕ} → x < 16 ^ 16 → y < 16 ^ 16 → (k : ℕ) → set-in k (halves x y) < 16 ^ 16
+either-small {x} {y} h l k = go (eqb k 2)
+  where
+    go : (t : Bool) → choose t y x < 16 ^ 16
+    go true = l
+    go false = h
+
 module _ (s : List ℕ) (t : T (areBytes s)) where
   word-small : (i : ℕ) → word-of s i < 16 ^ 16
   unfolding words-of
-  word-small i = part-small (words-of s) (8 * i) (part-bytes s header-length (word-length * count-of s) t)
+  word-small i = part-small (words-of s) (8 * i) (part-bytes s (header-length (version-of s)) (word-length * count-of s) t)
 
-  note-small : (i : ℕ) → note-of s i < 16 ^ 16
+  note-small : (i k : ℕ) → set-in k (note-of s i) < 16 ^ 16
   unfolding annotations-of annotation-at
-  note-small i = part-small (annotations-of s) (8 * i) (part-bytes s (annotations-start (count-of s)) (annotation-length * count-of s) t)
+  note-small i =
+      let v = version-of s in
+      let n = annotations-of s in
+      let b = part-bytes s (annotations-start v (count-of s)) (annotation-length v * count-of s) t in
+      either-small (part-small n (annotation-length v * i) b) (part-small n (annotation-length v * i + high-offset v) b)
 
-  entry-small : entry-of s < 16 ^ 16
+  entry-small : (k : ℕ) → set-in k (entry-of s) < 16 ^ 16
   unfolding entry-of
-  entry-small = part-small s 8 t
+  entry-small = either-small (part-small s 8 t) (part-small s (8 + high-offset (version-of s)) t)
+
+-- a version that there is has one digit
+version-small : (s : List ℕ) → WellFormed s → version-of s < 16
+version-small s f = ⊎-elim (λ e. omega (arith, e)) (λ e. omega (arith, e)) (known-one (version-of s) (sized s (f .opens) .is-known))
+
+-- the sets that are compared have a name
+set-named : (v w : ℕ) {k : ℕ} → List·Memᴰ k (sets-of v w) → T (ltb k 3)
+set-named v w {k} =
+    by-sets (λ (ks : List ℕ). List·Memᴰ k ks → T (ltb k 3)) (λ m. one tt (List·Memᴰ·eq-of-singleton m))
+    (λ m. ⊎-elim (one tt) (λ q. one tt (List·Memᴰ·eq-of-singleton q)) (List·Memᴰ·cases-cons m)) v w
+  where
+    one : {j : ℕ} → T (ltb j 3) → k ≡ j → T (ltb k 3)
+    one h e = subst⁻¹ (λ (n : ℕ). T (ltb n 3)) e h
 
 content-small : (s : List ℕ) (f : WellFormed s) (i j : ℕ) → i < count-of s → j < field-count → content s i j < sayable (getD fields j Row)
 unfolding instruction-at
@@ -164,5 +196,6 @@ shown-whole a b s t f g k l e = show (listed-differs a b m) (small-index a b (re
     }
     show (at-removed i _ _) q = record { index = omega arith; what = tt; first = word-small a s i; second = omega arith }
     show (at-added i _ _) q = record { index = omega arith; what = tt; first = omega arith; second = word-small b t i }
-    show (at-entry _) q = record { index = omega arith; what = tt; first = entry-small a s; second = entry-small b t }
-    show (at-note i _ _) q = record { index = omega arith; what = tt; first = note-small a s i; second = note-small b t i }
+    show (at-version _) q = record { index = omega arith; what = tt; first = version-small a f; second = version-small b g }
+    show (at-entry k m _) q = record { index = omega arith; what = set-named (version-of a) (version-of b) m; first = entry-small a s k; second = entry-small b t k }
+    show (at-note i k _ m _) q = record { index = omega arith; what = set-named (version-of a) (version-of b) m; first = note-small a s i k; second = note-small b t i k }

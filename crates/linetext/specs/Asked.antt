@@ -1,4 +1,4 @@
--- That the digits of a line say its numbers whole (02, Item 4).
+-- That the digits of a line say its numbers whole (02, Items 4 and 7).
 use mathlib.Core.Path.{_≡_}
 use mathlib.Core.Bool.{Bool, true}
 use mathlib.Core.List.{List}
@@ -9,7 +9,7 @@ use lib.Pow.{areBytes}
 use Rattle.bits.specs.Lists.{kth}
 use Rattle.safety.specs.Program.{WellFormed}
 use Rattle.differences.specs.declared.line.What.{What}
-use Rattle.differences.specs.declared.line.What.the-variants.{Row, Page, Flow, Destination, Source, Modifier, Added, Removed, Entry, Annotation}
+use Rattle.differences.specs.declared.line.What.the-variants.{Row, Page, Flow, Destination, Source, Modifier, Added, Removed, Entry, Annotation, Version}
 use Rattle.differences.specs.declared.line.Line.{Line}
 use Rattle.differences.specs.Differences.{differences}
 use Rattle.linetext.specs.Lines.{content-digits}
@@ -24,14 +24,15 @@ base (Source _) = 16
 base (Modifier _) = 16
 base Added = 16
 base Removed = 16
-base Entry = 16
-base Annotation = 16
+base (Entry _) = 16
+base (Annotation _) = 16
+base Version = 16
 
 -- how many contents the digits of a content can say
 abbrev pub sayable : What → ℕ
 sayable w = base w ^ content-digits w
 
--- a source's index has one digit, and a modifier's lowest bit has two
+-- a source's index has one digit, a modifier's lowest bit has two, and of sets there are three
 abbrev pub numbered : What → Bool
 numbered Row = true
 numbered Page = true
@@ -41,8 +42,9 @@ numbered (Source k) = ltb k (10 ^ 1)
 numbered (Modifier p) = ltb p (10 ^ 2)
 numbered Added = true
 numbered Removed = true
-numbered Entry = true
-numbered Annotation = true
+numbered (Entry k) = ltb k 3
+numbered (Annotation k) = ltb k 3
+numbered Version = true
 
 pub record Shown (l : Line) : Type 0 where
   pub index : l .index < 10 ^ 4

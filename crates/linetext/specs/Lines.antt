@@ -1,4 +1,4 @@
--- A line of a comparison as text, in ASCII (02, Item 4): the index, the field and both contents.
+-- A line of a comparison as text, in ASCII (02, Items 4 and 7): the index, the field and both contents.
 use mathlib.Core.List.{List, [], _∷_, _++_}
 use Prim.Native.Nat.{ℕ, _+_}
 use lib.Dec.{eqb}
@@ -8,7 +8,7 @@ use Rattle.reading.specs.Reader.{read-number}
 use Rattle.text.specs.Text.{space, line-feed, decimal, hex}
 use Rattle.text.specs.Name.{name-in}
 use Rattle.differences.specs.declared.line.What.{What}
-use Rattle.differences.specs.declared.line.What.the-variants.{Row, Page, Flow, Destination, Source, Modifier, Added, Removed, Entry, Annotation}
+use Rattle.differences.specs.declared.line.What.the-variants.{Row, Page, Flow, Destination, Source, Modifier, Added, Removed, Entry, Annotation, Version}
 use Rattle.differences.specs.declared.line.Line.{Line}
 
 -- the index in four decimal digits, and what differs there
@@ -37,8 +37,9 @@ content-digits (Source _) = 2
 content-digits (Modifier p) = modifier-digits p
 content-digits Added = 16
 content-digits Removed = 16
-content-digits Entry = 16
-content-digits Annotation = 16
+content-digits (Entry _) = 16
+content-digits (Annotation _) = 16
+content-digits Version = 1
 
 -- both contents in their digits
 abbrev pub pair : What → ℕ → ℕ → List ℕ
@@ -52,7 +53,11 @@ row-text n = (space ∷ decimal (content-digits Row) n) ++ (space ∷ name-of n)
 abbrev pub word-text : ℕ → List ℕ
 word-text w = (space ∷ hex (content-digits Added) w) ++ (space ∷ name-in (read-number w))
 
--- what differs at index i, and the contents: both, or the one word of an instruction that only one has; the entry set has no index
+-- which set: that of the low halves or that of the high halves; the one set of version 1 is not named
+abbrev pub set-name : ℕ → List ℕ
+set-name k = choose (eqb k 1) (ascii " low") (choose (eqb k 2) (ascii " high") [])
+
+-- what differs at index i, and the contents: both, or the one word of an instruction that only one has; entry sets and versions have no index
 abbrev pub told : What → ℕ → ℕ → ℕ → List ℕ
 told Row i x y = head i (ascii " row") ++ row-text x ++ arrow ++ row-text y
 told Page i x y = head i (ascii " page") ++ pair Page x y
@@ -62,8 +67,9 @@ told (Source k) i x y = head i (ascii " source") ++ (space ∷ decimal 1 k) ++ p
 told (Modifier p) i x y = head i (ascii " modifier") ++ (space ∷ decimal 2 p) ++ pair (Modifier p) x y
 told Added i x y = head i (ascii " added") ++ word-text y
 told Removed i x y = head i (ascii " removed") ++ word-text x
-told Entry i x y = ascii "entry" ++ pair Entry x y
-told Annotation i x y = head i (ascii " note") ++ pair Annotation x y
+told (Entry k) i x y = ascii "entry" ++ set-name k ++ pair (Entry k) x y
+told (Annotation k) i x y = head i (ascii " note") ++ set-name k ++ pair (Annotation k) x y
+told Version i x y = ascii "version" ++ pair Version x y
 
 -- a line feed at the end
 unfoldable pub line-text : Line → List ℕ

@@ -6,15 +6,12 @@ ghost use Rattle.input.specs.declared.Input.the-variants.{Bytes};
 ghost use Rattle.input.specs.Input.{Within};
 ghost use Rattle.listing.specs.Cut.{read-length};
 ghost use Rattle.listing.specs.Listing.{listing};
-use container::layout::ANNOTATION_LENGTH;
-use container::layout::HEADER_LENGTH;
-use container::layout::MOST_INSTRUCTIONS;
-use container::layout::WORD_LENGTH;
+use container::layout::LONGEST_CONTAINER;
 use input::Input;
 use listing::LONGEST;
 
 // One byte more than the longest container: what is longer is refused by this part alone.
-const MOST: usize = HEADER_LENGTH + (WORD_LENGTH + ANNOTATION_LENGTH) * MOST_INSTRUCTIONS + 1;
+const MOST: usize = LONGEST_CONTAINER + 1;
 
 // Reads that part, or all where there is less.
 fn read_part(buffer: &mut [u8]) -> Input

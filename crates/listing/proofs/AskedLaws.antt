@@ -1,11 +1,15 @@
 -- The listing is what the paper asks, in terms of well-formed containers, and no digit of a verdict is lost. Assumes nothing.
 use mathlib.Core.Path.{_≡_, refl, sym, ap, _∙_, subst}
 use mathlib.Core.List.{List, [], _∷_, _++_}
+use mathlib.Core.Logic.{_↔_}
 use Prim.Native.Nat.{ℕ, _<_, _≤_}
 use native.Mathlib.Omega.{arith}
 use lib.Dec.{T, lit<}
 use lib.Pow.{areBytes}
-use Rattle.bits.specs.Outcomes.{Outcome, gives, refuses, passes, _then_}
+use Rattle.bits.specs.Halves.{Half, lower, upper}
+use Rattle.container.specs.Formats.{most-instructions}
+use Rattle.bits.proofs.FirstLaws.{first-refused}
+use Rattle.bits.specs.Outcomes.{Outcome, gives, refuses, passes, _then_, first}
 use Rattle.bits.proofs.OutcomeLaws.{never, then-refused, told, Refusals}
 use Rattle.record.specs.declared.instruction.Instruction.{Instruction}
 use Rattle.record.specs.declared.answer.Refusal.{Refusal}
@@ -13,15 +17,15 @@ use Rattle.record.proofs.NumberedLaws.{Numbered}
 use Rattle.reading.specs.Reader.{read}
 use Rattle.reading.proofs.NumberedLaws.{read-numbers, read-places}
 use Rattle.container.specs.declared.header.Header.{Header}
-use Rattle.container.specs.Container.{most-instructions, count-of, words-of, eight}
+use Rattle.container.specs.Container.{count-of, words-of, eight}
 use Rattle.container.specs.Opening.{Rejection, open-outcome, Opens}
 use Rattle.container.proofs.OpeningLaws.{sized}
 use Rattle.container.proofs.NumberedLaws.{Unopened, open-numbers}
+use Rattle.safety.specs.declared.verdict.Reported.the-variants.{Neither, Low, High}
 use Rattle.safety.specs.declared.verdict.Finding.{Finding}
 use Rattle.safety.specs.Program.{Program, program-of, WellFormed}
-use Rattle.safety.specs.Verdict.{Judgement, first, judge-opening, judge-reading, judge-word, judge-program, verdict-of, all-read}
+use Rattle.safety.specs.Verdict.{Judgement, finding, plain, reported, judge-opening, judge-reading, judge-word, judge-program, verdict-of, all-read}
 use Rattle.safety.specs.Reasons.{Wrong, entry-lacks, annotation-lacks, runs-off, successor-lacks, Reason, unopened, unreadable, wrong}
-use Rattle.safety.proofs.VerdictLaws.{first-refused}
 use Rattle.safety.proofs.ReasonLaws.{reason}
 use Rattle.safety.proofs.ReadLaws.{formed, all-of, goes-on}
 use Rattle.safety.proofs.Demand3.{opening-of}
@@ -36,21 +40,39 @@ use Rattle.listing.proofs.NumberLaws.{opens, reads}
 use Rattle.listing.proofs.ListingLaws.{listing-read, listing-unread}
 
 -- the digits of a refusal, by its reason
+told-letter : (h : Half) (r : ℕ) → r < 64 → (reported h ≡ Neither) ↔ (r ≡ 64)
+told-letter lower r l = (λ e. absurd (differ e), λ e. absurd (omega (arith, l, e)))
+  where
+    differ : Low ≡ Neither → ⊥
+    differ e = let z : _≡_ {A = ℕ} 0 1 = cc in omega arith
+told-letter upper r l = (λ e. absurd (differ e), λ e. absurd (omega (arith, l, e)))
+  where
+    differ : High ≡ Neither → ⊥
+    differ e = let z : _≡_ {A = ℕ} 0 1 = cc in omega arith
+
+-- with no register and no half
+plain-shown : (n p i : ℕ) → n < 100 → i < 10000 → p < 100 → Shown (plain n p i)
+plain-shown n p i a b c = record { number = a; index = b; register = lit< tt; place = c; letter = (λ e. refl, λ e. refl) }
+
+-- with both
+half-shown : (n i r : ℕ) (h : Half) → n < 100 → i < 10000 → r < 64 → Shown (finding n 0 i r (reported h))
+half-shown n i r h a b c = record { number = a; index = b; register = omega (arith, c); place = lit< tt; letter = told-letter h r c }
+
 wrong-shown : (p : Program) → p .count ≤ most-instructions → {f : Finding} → Wrong p f → Shown f
-wrong-shown p h (entry-lacks r m) = record { number = lit< tt; index = lit< tt; register = omega (arith, m .is); place = lit< tt }
-wrong-shown p h (annotation-lacks i r l m) = record { number = lit< tt; index = omega arith; register = omega (arith, m .is); place = lit< tt }
-wrong-shown p h (runs-off i z l q o) = record { number = lit< tt; index = omega arith; register = lit< tt; place = lit< tt }
-wrong-shown p h (successor-lacks i j r l q b m) = record { number = lit< tt; index = omega arith; register = omega (arith, m .is); place = lit< tt }
+wrong-shown p h (entry-lacks r k m) = half-shown 23 0 r k (lit< tt) (lit< tt) (m .is)
+wrong-shown p h (annotation-lacks i r k l m) = half-shown 20 i r k (lit< tt) (omega arith) (m .is)
+wrong-shown p h (runs-off i z l q o) = plain-shown 21 0 i (lit< tt) (omega arith) (lit< tt)
+wrong-shown p h (successor-lacks i j r k l q b m) = half-shown 22 i r k (lit< tt) (omega arith) (m .is)
 
 unopened-shown : (o : Outcome Rejection Header) → Refusals Unopened o → {f : Finding} → judge-opening o ≡ refuses f → Shown f
 unopened-shown (gives h) p e = never (sym e)
-unopened-shown (refuses r) p e = subst Shown (told e) (record { number = omega (arith, p r refl .0 .1); index = lit< tt; register = lit< tt; place = omega (arith, p r refl .1) })
+unopened-shown (refuses r) p e = subst Shown (told e) (plain-shown (r .number) (r .place) 0 (omega (arith, p r refl .0 .1)) (lit< tt) (omega (arith, p r refl .1)))
 
 unread-shown : (i : ℕ) → i < 10000 → (o : Outcome Refusal Instruction) → Refusals (Numbered 1 7) o → Refusals (λ (f : Refusal). f .place < 64) o
     → {f : Finding} → judge-reading i o ≡ refuses f → Shown f
 unread-shown i h (gives x) p q e = never (sym e)
 unread-shown i h (refuses g) p q e =
-    subst Shown (told e) (record { number = omega (arith, p g refl .1); index = h; register = lit< tt; place = omega (arith, q g refl) })
+    subst Shown (told e) (plain-shown (g .number) (g .place) i (omega (arith, p g refl .1)) h (omega (arith, q g refl)))
 
 module _ (s : List ℕ) where
   few : Opens s → count-of s ≤ most-instructions

@@ -1,25 +1,26 @@
 -- Input that is longer than any container gets the listing and the verdict of its front. Assumes nothing.
 use mathlib.Core.Path.{_≡_, refl, sym, ap, _∙_}
 use mathlib.Core.Bool.{Bool, true, false, _&&_}
-use mathlib.Core.List.{List, [], _∷_, _++_}
-use mathlib.Core.Logic.{⊎-elim}
-use Prim.Native.Nat.{ℕ, _+_, _*_, _<_, _≤_}
+use mathlib.Core.List.{List}
+use Prim.Native.Nat.{ℕ, _<_, _≤_}
 use native.Mathlib.Omega.{arith}
 use borrow.Author.Tests.{le-leb, leb-true, ltb-true, ltb-false, ne-eqb}
 use lib.Dec.{leb, ltb, eqb, lit<}
 use lib.ListN.{length, take, getD}
 use lib.Seq.{take-all, getD-take, length-take-le}
-use Rattle.bits.specs.Outcomes.{Outcome, gives, refuses, passes, require, _then_}
+use Rattle.bits.specs.Outcomes.{Outcome, gives, refuses, require, _then_, first}
 use Rattle.bits.proofs.OutcomeLaws.{then-refused}
 use Rattle.container.specs.declared.header.Header.{Header}
-use Rattle.container.specs.Container.{header-length, most-instructions, version, marked, version-of, zero-of, count-of, words-of, container-length}
+use Rattle.container.specs.Formats.{known, most-of, shortest-header, container-length, longest-container}
+use Rattle.container.specs.Container.{marked, version-of, zero-of, count-of, words-of}
 use Rattle.container.specs.Opening.{Rejection, unplaced, header-of, open-outcome}
+use Rattle.container.proofs.FormatLaws.{no-longer}
 use Rattle.container.proofs.OpeningLaws.{sized, version-two}
 use Rattle.safety.specs.Program.{program-of, WellFormed}
-use Rattle.safety.specs.Verdict.{Judgement, finding, no-register, first, judge-opening, judge-word, judge-program, verdict-of, all-read}
+use Rattle.safety.specs.Verdict.{judge-opening, judge-word, judge-program, verdict-of, all-read, plain}
 use Rattle.verdictline.specs.VerdictLine.{verdict-line}
-use Rattle.listing.specs.Listing.{lines, where-read, listing}
-use Rattle.listing.specs.Cut.{longest-container, read-length, FromTheFront}
+use Rattle.listing.specs.Listing.{listing}
+use Rattle.listing.specs.Cut.{read-length, FromTheFront}
 use Rattle.listing.proofs.ListingLaws.{listing-unread}
 
 -- the tests of the count and of the length, as opening has them
@@ -27,15 +28,15 @@ abbrev counted : Bool → Bool → Header → Outcome Rejection Header
 counted count long h = require count (unplaced 12) then require long (unplaced 12) then gives h
 
 -- no count goes with a length over the longest
-no-count : (l n : ℕ) (h : Header) → longest-container < l
-    → counted (leb 1 n && leb n most-instructions) (eqb l (container-length n)) h ≡ refuses (unplaced 12)
+no-count : (l v n : ℕ) (h : Header) → longest-container < l
+    → counted (leb 1 n && leb n (most-of v)) (eqb l (container-length v n)) h ≡ refuses (unplaced 12)
 unfolding _then_
-no-count l n h big = go (leb 1 n) (leb n most-instructions) refl
+no-count l v n h big = go (leb 1 n) (leb n (most-of v)) refl
   where
-    go : (a b : Bool) → leb n most-instructions ≡ b → counted (a && b) (eqb l (container-length n)) h ≡ refuses (unplaced 12)
+    go : (a b : Bool) → leb n (most-of v) ≡ b → counted (a && b) (eqb l (container-length v n)) h ≡ refuses (unplaced 12)
     go false b e = refl
     go true false e = refl
-    go true true e = rw (ne-eqb l (container-length n) (λ q. omega (arith, leb-true n most-instructions e)))
+    go true true e = rw (ne-eqb l (container-length v n) (λ q. omega (arith, q, no-longer v n (leb-true n (most-of v) e))))
 
 -- what is too long is refused by its first eight bytes
 abbrev front : Bool → Bool → Bool → Outcome Rejection Header
@@ -49,20 +50,20 @@ front-refuses true true false = (13, refl)
 front-refuses true true true = (12, refl)
 
 module _ (s : List ℕ) (big : longest-container < length s) where
-  by-front : open-outcome s ≡ front (marked s) (eqb (version-of s) version) (eqb (zero-of s) 0)
+  by-front : open-outcome s ≡ front (marked s) (known (version-of s)) (eqb (zero-of s) 0)
   unfolding open-outcome _then_
-  by-front = rw (le-leb header-length (length s) (omega arith), no-count (length s) (count-of s) (header-of s) big)
+  by-front = rw (le-leb shortest-header (length s) (omega arith), no-count (length s) (version-of s) (count-of s) (header-of s) big)
 
 module _ (s : List ℕ) {n : ℕ} (o : open-outcome s ≡ refuses (unplaced n)) where
-  unopened-verdict : verdict-of s ≡ refuses (finding n 0 0 no-register)
+  unopened-verdict : verdict-of s ≡ refuses (plain n 0 0)
   unfolding verdict-of
   unopened-verdict = then-refused (first (judge-word (words-of s)) (count-of s) then judge-program (program-of s)) (ap judge-opening o)
 
-  unopened-read : all-read s ≡ refuses (finding n 0 0 no-register)
+  unopened-read : all-read s ≡ refuses (plain n 0 0)
   unfolding all-read
   unopened-read = then-refused (first (judge-word (words-of s)) (count-of s)) (ap judge-opening o)
 
-  unopened-listing : listing s ≡ verdict-line (refuses (finding n 0 0 no-register))
+  unopened-listing : listing s ≡ verdict-line (refuses (plain n 0 0))
   unopened-listing = listing-unread s unopened-read ∙ ap verdict-line unopened-verdict
 
 -- inputs that are too long and have the same first bytes
@@ -86,7 +87,7 @@ module _ (s : List ℕ) (big : read-length ≤ length s) where
       same-opening s Front (λ i h. getD-take read-length s i 0 (omega arith)) (omega arith) (omega arith)
 
   refused : (n : ℕ) × (open-outcome s ≡ refuses (unplaced n))
-  refused = let r = front-refuses (marked s) (eqb (version-of s) version) (eqb (zero-of s) 0) in (r .0, by-front s (omega arith) ∙ r .1)
+  refused = let r = front-refuses (marked s) (known (version-of s)) (eqb (zero-of s) 0) in (r .0, by-front s (omega arith) ∙ r .1)
 
   long-verdict : verdict-of Front ≡ verdict-of s
   long-verdict = unopened-verdict Front (same-front ∙ refused .1) ∙ sym (unopened-verdict s (refused .1))
@@ -115,4 +116,4 @@ read-from-the-front = either-way all-read long-read
 
 -- what opens and reads is all read
 pub all-of-it : (s : List ℕ) → WellFormed s → take read-length s ≡ s
-all-of-it s f = take-all read-length s (let z = sized s (f .opens) in omega (arith, z .long, z .few))
+all-of-it s f = take-all read-length s (let z = sized s (f .opens) in omega (arith, z .long, no-longer (version-of s) (count-of s) (z .fits)))

@@ -1,30 +1,21 @@
 -- What a listing has, by its verdict, and how it is put into a buffer. Assumes nothing.
-use mathlib.Core.Path.{_≡_, refl, sym, ap, _∙_, subst}
+use mathlib.Core.Path.{_≡_, refl, sym, ap, _∙_}
 use mathlib.Core.Bool.{Bool, true, false}
-use mathlib.Core.List.{List, [], _∷_, _++_}
-use Prim.Native.Nat.{ℕ, _+_, _-_, _*_, _<_, _≤_}
+use mathlib.Core.List.{List, _++_}
+use Prim.Native.Nat.{ℕ, _+_}
 use native.Mathlib.Omega.{arith}
-use borrow.Author.Tests.{le-leb, lt-leb, leb-true, leb-false}
-use lib.Dec.{T, leb}
-use lib.ListN.{length, take, drop}
+use borrow.Author.Tests.{leb-true, leb-false}
+use lib.Dec.{T}
 use lib.Pow.{areBytes}
-use Rattle.bits.specs.Fields.{choose}
-use Rattle.bits.specs.Outcomes.{Outcome, gives, refuses, passes, _then_}
-use Rattle.bits.proofs.OutcomeLaws.{never, then-passed, then-refused}
-use Rattle.container.specs.declared.header.Header.{Header}
-use Rattle.container.specs.Container.{header-length, count-of, words-of, annotations-start}
-use Rattle.container.specs.Opening.{header-of, Opens}
-use Rattle.view.specs.Words.{count-in, open-count}
-use Rattle.container.proofs.OpeningLaws.{sized, opened, words-to}
+use Rattle.bits.specs.Outcomes.{gives, refuses, passes}
+use Rattle.bits.proofs.OutcomeLaws.{then-refused}
+use Rattle.container.specs.Container.{count-of, words-of}
+use Rattle.container.specs.Opening.{Opens}
 use Rattle.safety.specs.declared.verdict.Finding.{Finding}
-use Rattle.safety.specs.Program.{program-of, Worded}
+use Rattle.safety.specs.Program.{program-of}
 use Rattle.safety.specs.Verdict.{Judgement, judge-program, verdict-of, all-read}
-use Rattle.safety.proofs.VerdictLaws.{both}
-use Rattle.safety.proofs.PassLaws.{worded}
-use Rattle.text.specs.Text.{Put}
 use Rattle.verdictline.specs.VerdictLine.{verdict-line, lists}
 use Rattle.listing.specs.Listing.{lines, listing}
-use Rattle.text.proofs.TextLaws.{put-next, same-text}
 use Rattle.safety.proofs.Demand3.{opening-of}
 use Rattle.safety.proofs.ReadLaws.{goes-on}
 use Rattle.listing.proofs.NumberLaws.{early, late, opens}

@@ -5,14 +5,14 @@ use Prim.Native.Nat.{ℕ, _<_, _≤_}
 use native.Mathlib.Omega.{arith}
 use lib.Dec.{T}
 use lib.Pow.{areBytes}
-use Rattle.bits.specs.Outcomes.{refuses, passes, _then_}
+use Rattle.bits.proofs.FirstLaws.{both, first-of}
+use Rattle.bits.specs.Outcomes.{refuses, passes, _then_, first}
 use Rattle.bits.proofs.OutcomeLaws.{then-passed, Refusals, of-then, weaker}
 use Rattle.container.specs.Container.{count-of, words-of}
 use Rattle.container.specs.Opening.{open-outcome}
 use Rattle.safety.specs.declared.verdict.Finding.{Finding}
 use Rattle.safety.specs.Program.{program-of}
-use Rattle.safety.specs.Verdict.{first, judge-opening, judge-word, judge-program, verdict-of, all-read}
-use Rattle.safety.proofs.VerdictLaws.{both, first-of}
+use Rattle.safety.specs.Verdict.{judge-opening, judge-word, judge-program, verdict-of, all-read}
 use Rattle.safety.proofs.NumberedLaws.{ToldBetween, opened-numbers, words-numbers, program-numbers}
 
 abbrev Early : Finding → Type 0

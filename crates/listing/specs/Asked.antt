@@ -1,24 +1,29 @@
 -- What 01, The lister, asks of a listing, in terms of well-formed containers; and that no digit of a verdict is lost.
 use mathlib.Core.Path.{_≡_}
 use mathlib.Core.List.{List, [], _∷_, _++_}
+use mathlib.Core.Logic.{_↔_}
 use Prim.Native.Nat.{ℕ, _<_, _≤_}
+use Rattle.container.specs.Formats.{most-instructions}
 use Rattle.bits.specs.Outcomes.{refuses}
-use Rattle.container.specs.Container.{most-instructions, count-of, words-of}
+use Rattle.container.specs.Container.{count-of, words-of}
 use Rattle.container.specs.Opening.{Opens}
+use Rattle.safety.specs.declared.verdict.Reported.the-variants.{Neither}
 use Rattle.safety.specs.declared.verdict.Finding.{Finding}
 use Rattle.safety.specs.Program.{WellFormed}
-use Rattle.safety.specs.Verdict.{verdict-of}
+use Rattle.safety.specs.Verdict.{no-register, verdict-of}
 use Rattle.safety.specs.Passed.{Unreadable, PassedOn}
 use Rattle.text.specs.Text.{space, line-feed, decimal}
 use Rattle.verdictline.specs.VerdictLine.{refusal-fields, verdict-line}
 use Rattle.listing.specs.Listing.{lines}
 
--- the digits of a refusal say its numbers whole: two for the number, four for the index, two for the register, two for the place
+-- the digits of a refusal say its numbers whole: two for the number, four for the index, two for the register, two for the place; and there
+-- is a letter for the half (02, Item 7) but where the register is 64
 pub record Shown (f : Finding) : Type 0 where
   pub number : f .number < 100
   pub index : f .index < 10000
   pub register : f .register < 100
   pub place : f .place < 100
+  pub letter : (f .half ≡ Neither) ↔ (f .register ≡ no-register)
 
 -- of the bytes s and the text that is listed for them
 pub record ListedAsAsked (s text : List ℕ) : Type 0 where

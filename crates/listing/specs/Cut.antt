@@ -3,10 +3,7 @@ use mathlib.Core.Path.{_≡_}
 use mathlib.Core.List.{List}
 use Prim.Native.Nat.{ℕ, _+_}
 use lib.ListN.{take}
-use Rattle.container.specs.Container.{most-instructions, container-length}
-
-abbrev pub longest-container : ℕ
-longest-container = container-length most-instructions
+use Rattle.container.specs.Formats.{longest-container}
 
 abbrev pub read-length : ℕ
 read-length = longest-container + 1

@@ -1,11 +1,12 @@
 -- What the lister writes for a container's bytes (01, The lister).
 use mathlib.Core.List.{List, [], _∷_, _++_}
 use Prim.Native.Nat.{ℕ, zero, suc, _+_, _*_}
+use Rattle.container.specs.Formats.{most-instructions}
 use Rattle.bits.specs.Bytes.{little}
 use Rattle.bits.specs.Outcomes.{gives, refuses}
 use Rattle.rows.specs.Names.{name-width}
 use Rattle.reading.specs.Reader.{read-number}
-use Rattle.container.specs.Container.{most-instructions, count-of, words-of, eight}
+use Rattle.container.specs.Container.{count-of, words-of, eight}
 use Rattle.safety.specs.Verdict.{Judgement, verdict-of, all-read}
 use Rattle.text.specs.Text.{space, line-feed, decimal, hex}
 use Rattle.text.specs.Name.{name-in}

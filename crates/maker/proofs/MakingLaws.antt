@@ -2,23 +2,28 @@
 use mathlib.Core.Path.{_≡_, refl, sym, ap, _∙_}
 use mathlib.Core.Bool.{Bool, true, false}
 use mathlib.Core.List.{List, _∷_}
-use Prim.Native.Nat.{ℕ, zero, suc, _-_, _<_, _≤_}
+use Prim.Native.Nat.{ℕ, zero, suc, _+_, _*_, _-_, _<_, _≤_}
 use native.Mathlib.Omega.{arith}
 use borrow.Author.Tests.{le-leb, lt-leb, ltb-true, ltb-false}
 use lib.Dec.{ltb}
 use lib.ListN.{length, take, drop, replicate, length-take, length-drop, length-replicate}
-use lib.Seq.{take-all, length-take-le}
-use Rattle.bits.specs.Outcomes.{Outcome, gives, refuses, _then_}
-use Rattle.bits.proofs.OutcomeLaws.{never, then-gives, required}
-use Rattle.container.specs.Container.{container-length}
+use lib.Seq.{take-all, take-take, length-take-le}
+use Rattle.bits.specs.Bytes.{little}
+use Rattle.bits.specs.declared.halves.Halves.{Halves}
+use Rattle.bits.specs.Outcomes.{Outcome, gives, refuses, require, _then_}
+use Rattle.bits.proofs.OutcomeLaws.{never, then-gives}
+use Rattle.container.specs.declared.format.Format.{Format}
+use Rattle.container.specs.Formats.{known, format-of, annotation-length, container-length}
+use Rattle.container.proofs.FormatLaws.{bounded, bounded-by, at-most}
 use Rattle.packing.specs.Packing.{word-count, fitting, Fitting, pack-buffer}
-use Rattle.packing.proofs.PackLaws.{fitting-of, fitting-to, packs}
+use Rattle.packing.proofs.PackLaws.{fitting-of, fitting-to, few-words as fitting-few, packs}
 use Rattle.safety.specs.declared.verdict.Finding.{Finding}
-use Rattle.safety.specs.Verdict.{finding, no-register}
+use Rattle.safety.specs.Verdict.{plain}
 use Rattle.infer.specs.Inference.{infer-outcome}
 use Rattle.infer.specs.Asked.{Inferred}
+use Rattle.infer.proofs.NumberedLaws.{given}
 use Rattle.input.specs.declared.Input.{Input}
-use Rattle.maker.specs.Making.{read-length, words-in, entry-in, blank, answer-to, notes-for, made, Read, Parted}
+use Rattle.maker.specs.Making.{read-length, version-in, words-in, entry-in, blank, answer-to, notes-for, made, Read, Parted}
 
 -- the first k of n equal numbers
 pub lent : (v n k : ℕ) → k ≤ n → take k (replicate n v) ≡ replicate k v
@@ -29,50 +34,69 @@ lent v (suc n) (suc k) h = ap (λ (l : List ℕ). v ∷ l) (lent v n k (omega ar
 pub lent-length : (v n k : ℕ) → k ≤ n → k ≡ length (take k (replicate n v))
 lent-length v n k h = sym (length-take k (replicate n v) ∙ omega (arith, length-replicate n v))
 
--- an input that is too short for an entry set
-pub too-short : (s : List ℕ) → length s < 8 → answer-to s ≡ refuses (finding 12 0 0 no-register)
+-- an input that is too short for what stands before the words
+pub too-short : (s : List ℕ) → length s < 24 → answer-to s ≡ refuses (plain 12 0 0)
 unfolding answer-to _then_
-too-short s h = rw (lt-leb 8 (length s) h)
+too-short s h = rw (lt-leb 24 (length s) h)
 
 -- what is read is parted
-pub parted : (s : List ℕ) → 8 ≤ length s → {entry : ℕ} → entry ≡ entry-in s → Parted s entry (take (length s - 8) (drop 8 s))
-parted s h e = record { long = h; front = e; rest = take-all (length s - 8) (drop 8 s) (omega (arith, length-drop 8 s)) }
+pub parted : (s : List ℕ) → 24 ≤ length s → {version : ℕ} {entry : Halves} → version ≡ version-in s → entry ≡ entry-in s
+    → Parted s version entry (take (length s - 24) (drop 24 s))
+parted s h v e = record { long = h; version = v; entry = e; words = take-all (length s - 24) (drop 24 s) (omega (arith, length-drop 24 s)) }
 
-module _ {s : List ℕ} {entry : ℕ} {words : List ℕ} (p : Parted s entry words) where
-  -- there are no more words than a program has
+module _ {s : List ℕ} {v : ℕ} {entry : Halves} {words : List ℕ} (p : Parted s v entry words) where
+  -- there are no more words than a program has,
   pub few-words : {input : Input} → Read input s → word-count (length words) ≤ 2048
-  few-words r = let l = ap length (p .rest) ∙ length-drop 8 s in omega (arith, r .few)
+  few-words r = let l = ap length (p .words) ∙ length-drop 24 s in omega (arith, r .few)
 
-  pub answers : answer-to s ≡ infer-outcome words entry (blank words)
+  -- so the annotations and the container of any version have room in the longest ones
+  pub notes-room : {input : Input} → Read input s → {f : Format} → f ≡ format-of v → f .annotation * word-count (length words) ≤ 32768
+  notes-room r {f} e = at-most {a = f .annotation} {b = word-count (length words)} 16 2048 (bounded-by v e .annotation-most) (few-words r)
+
+  pub whole-room : {input : Input} → Read input s → {n : ℕ} → n ≡ container-length v (word-count (length words)) → n ≤ 49176
+  whole-room r e =
+      let l = at-most {a = 8 + annotation-length v} {b = word-count (length words)} 24 2048 (omega (arith, bounded v .annotation-most)) (few-words r) in
+      omega (arith, l, bounded v .header-most, e)
+
+  pub answers : answer-to s ≡ infer-outcome v words entry (blank v words)
   unfolding answer-to _then_
-  answers = rw (le-leb 8 (length s) (p .long), p .front, p .rest)
+  answers = rw (le-leb 24 (length s) (p .long), p .version, p .entry, p .words)
 
-  module _ {notes : List ℕ} (b : notes ≡ blank words) {o : Outcome Finding ℕ} {after : List ℕ} (i : Inferred words entry notes o after) where
+  module _ {notes : List ℕ} (b : notes ≡ blank v words) {o : Outcome Finding ℕ} {after : List ℕ} (i : Inferred v words entry notes o after) where
     pub answered : answer-to s ≡ o
-    answered = answers ∙ ap (infer-outcome words entry) (sym b) ∙ sym (i .answers)
+    answered = answers ∙ ap (infer-outcome v words entry) (sym b) ∙ sym (i .answers)
 
     pub noted : after ≡ notes-for s
     unfolding notes-for
-    noted = i .leaves ∙ rw (b, p .front, p .rest)
+    noted = i .leaves ∙ rw (b, p .version, p .entry, p .words)
 
-    pub fits : {k : ℕ} → o ≡ gives k → length after ≡ length notes → Fitting (length words) (length after)
-    unfolding infer-outcome
-    fits {k} e l = rw l (fitting-of _ _ (required _ _ (then-gives _ _ k (sym (i .answers) ∙ e) .0)))
+    -- where something is proposed, the version is there and the lengths are right
+    pub fits : {k : ℕ} → o ≡ gives k → length after ≡ length notes → (known v ≡ true) × Fitting v (length words) (length after)
+    fits {k} e l = let g = given v words entry notes k (sym (i .answers) ∙ e) in (g .0, rw l (g .1))
 
   -- what is packed is what is sent
-  pub packed : (out : List ℕ) {notes after : List ℕ} → notes ≡ notes-for s → Fitting (length words) (length notes)
-      → length out ≡ container-length (word-count (length words)) → after ≡ pack-buffer entry words notes out → after ≡ made s
+  pub packed : (out : List ℕ) {notes after : List ℕ} → notes ≡ notes-for s → known v ≡ true → Fitting v (length words) (length notes)
+      → length out ≡ container-length v (word-count (length words)) → after ≡ pack-buffer v entry words notes out → after ≡ made s
   unfolding made
-  packed out {notes} {after} n f l e = e ∙ sym (packs entry words notes out (fitting-to _ _ f) l .1) ∙ rw (n, p .front, p .rest)
+  packed out {notes} {after} n k f l e =
+      e ∙ sym (packs v entry words notes out k (fitting-to _ _ _ f) l .1) ∙ rw (n, p .version, p .entry, p .words)
 
--- what is read of an input that is longer is enough
-too-long : (s : List ℕ) → read-length ≤ length s → answer-to s ≡ refuses (finding 12 0 0 no-register)
-unfolding answer-to infer-outcome _then_
-too-long s h = go (fitting (length (words-in s)) (length (blank (words-in s)))) refl
-  where
-    go : (t : Bool) → fitting (length (words-in s)) (length (blank (words-in s))) ≡ t → answer-to s ≡ refuses (finding 12 0 0 no-register)
-    go true e = let f = fitting-of _ _ e in absurd (omega (arith, f .few, f .whole, length-drop 8 s))
-    go false e = rw (le-leb 8 (length s) (omega arith), e)
+-- what is read of an input that is longer is enough: the version tells its refusal
+Late : ℕ → Outcome Finding ℕ
+Late v = require (known v) (plain 11 0 0) then refuses (plain 12 0 0)
+
+module _ (s : List ℕ) (h : read-length ≤ length s) where
+  too-long : answer-to s ≡ Late (version-in s)
+  unfolding answer-to infer-outcome _then_ Late
+  too-long = go (fitting (version-in s) (length (words-in s)) (length (blank (version-in s) (words-in s)))) refl
+    where
+      go : (t : Bool) → fitting (version-in s) (length (words-in s)) (length (blank (version-in s) (words-in s))) ≡ t → answer-to s ≡ Late (version-in s)
+      go true e = let f = fitting-of _ _ _ e in absurd (omega (arith, fitting-few _ _ _ f, f .whole, length-drop 24 s))
+      go false e = rw (le-leb 24 (length s) (omega arith), e)
+
+  late-refused : {k : ℕ} → ¬ (answer-to s ≡ gives k)
+  unfolding Late
+  late-refused {k} e = never (then-gives (require (known (version-in s)) (plain 11 0 0)) _ k (sym too-long ∙ e) .1)
 
 pub answer-from-the-front : (s : List ℕ) → answer-to (take read-length s) ≡ answer-to s
 answer-from-the-front s = go (ltb (length s) read-length) refl
@@ -81,11 +105,13 @@ answer-from-the-front s = go (ltb (length s) read-length) refl
     go true e = ap answer-to (take-all read-length s (let h = ltb-true (length s) read-length e in omega arith))
     go false e =
         let h = ltb-false (length s) read-length e in
-        too-long (take read-length s) (rw (length-take-le read-length s h) (omega arith)) ∙ sym (too-long s h)
+        too-long (take read-length s) (rw (length-take-le read-length s h) (omega arith))
+        ∙ ap (λ (f : List ℕ). Late (little f)) (take-take 8 read-length s (omega arith))
+        ∙ sym (too-long s h)
 
 pub made-from-the-front : (s : List ℕ) (k : ℕ) → answer-to s ≡ gives k → made (take read-length s) ≡ made s
 made-from-the-front s k g = go (ltb (length s) read-length) refl
   where
     go : (t : Bool) → ltb (length s) read-length ≡ t → made (take read-length s) ≡ made s
     go true e = ap made (take-all read-length s (let h = ltb-true (length s) read-length e in omega arith))
-    go false e = never (sym (too-long s (ltb-false (length s) read-length e)) ∙ g)
+    go false e = absurd (late-refused s (ltb-false (length s) read-length e) g)

@@ -1,32 +1,40 @@
-// Reads an entry set and words from standard input, and writes the container of both and of the annotations that are proposed for them to
+// Reads a version, an entry set and words from standard input, and writes the container of them and of the annotations that are proposed to
 // standard output. A program here has no exit status, so standard error tells how many sweeps that took, or the refusal, or what failed.
 ghost use mathlib.Core.Path.{_≡_};
+ghost use mathlib.Core.Bool.{true};
 ghost use lib.ListN.{length};
 ghost use Rattle.bits.specs.Outcomes.{gives, refuses};
-ghost use Rattle.container.specs.Container.{container-length};
+ghost use Rattle.container.specs.Formats.{known, container-length};
 ghost use Rattle.packing.specs.Packing.{word-count, Fitting};
 ghost use Rattle.input.specs.Input.{Within};
 ghost use Rattle.verdictline.specs.VerdictLine.{verdict-line};
 ghost use Rattle.maker.specs.Making.{read-length, blank, answer-to, notes-for, made, Read, Parted};
 use bits::bytes::load64;
-use container::layout::ANNOTATION_LENGTH;
-use container::layout::HEADER_LENGTH;
+use bits::halves::Halves;
+use container::format::container_length;
+use container::format::format_of;
+use container::header::halves_in;
+use container::layout::LONGEST_ANNOTATION;
+use container::layout::LONGEST_CONTAINER;
 use container::layout::MOST_INSTRUCTIONS;
 use container::layout::WORD_LENGTH;
-use flow::NO_REGISTER;
 use infer::infer;
 use input::Input;
 use packing::pack;
 use safety::verdict::Finding;
 use safety::verdict::Verdict;
+use safety::verdict::plain;
 use sweeps::answer::Inference;
 use verdictline::LONGEST_VERDICT;
 use verdictline::write_verdict;
 
-const ENTRY_LENGTH: usize = 8;
+// What stands before the words: the version, and from byte 8 on the entry set, its low halves and its high halves.
+const FRONT_LENGTH: usize = 24;
 
-// One byte more than the entry set and the most words: what is longer is refused by this part alone.
-const MOST: usize = ENTRY_LENGTH + WORD_LENGTH * MOST_INSTRUCTIONS + 1;
+const ENTRY: usize = 8;
+
+// One byte more than that and the most words: what is longer is refused by this part alone.
+const MOST: usize = FRONT_LENGTH + WORD_LENGTH * MOST_INSTRUCTIONS + 1;
 
 // The number of the refusal, by its reason.
 const WRONG_LENGTH: u8 = 12;
@@ -84,15 +92,16 @@ fn refuse(bytes: &[u8], input: Input, f: Finding)
 fn deliver<'a>(
     bytes: &'a [u8],
     input: Input,
-    entry: u64,
+    version: u64,
+    entry: Halves,
     words: &'a [u8],
     notes: &'a [u8],
     k: usize,
     out: &mut [u8],
 )
-    requires { ⌜ Read input (now bytes) × Parted (now bytes) entry (now words) × (answer-to (now bytes) ≡ gives k) × (now notes ≡ notes-for (now bytes)) × Fitting (length (now words)) (length (now notes)) × (length (now out) ≡ container-length (word-count (length (now words)))) ⌝ }
+    requires { ⌜ Read input (now bytes) × Parted (now bytes) version entry (now words) × (answer-to (now bytes) ≡ gives k) × (now notes ≡ notes-for (now bytes)) × (known version ≡ true) × Fitting version (length (now words)) (length (now notes)) × (length (now out) ≡ container-length version (word-count (length (now words)))) ⌝ }
 {
-    pack(entry, words, notes, out);
+    pack(version, entry, words, notes, out);
     if send(bytes, input, k, out) {
         tell_sweeps(bytes, input, k);
     } else {
@@ -104,32 +113,35 @@ fn deliver<'a>(
 fn make_in<'a>(
     bytes: &'a [u8],
     input: Input,
-    entry: u64,
+    version: u64,
+    entry: Halves,
     words: &'a [u8],
     notes: &mut [u8],
     out: &mut [u8],
 )
-    requires { ⌜ Read input (now bytes) × Parted (now bytes) entry (now words) × (now notes ≡ blank (now words)) × (length (now out) ≡ container-length (word-count (length (now words)))) ⌝ }
+    requires { ⌜ Read input (now bytes) × Parted (now bytes) version entry (now words) × (now notes ≡ blank version (now words)) × (length (now out) ≡ container-length version (word-count (length (now words)))) ⌝ }
 {
-    let answer = infer(words, entry, notes);
+    let answer = infer(version, words, entry, notes);
     match answer {
-        Inference::Proposed(k) => deliver(bytes, input, entry, words, notes, k, out),
+        Inference::Proposed(k) => { deliver(bytes, input, version, entry, words, notes, k, out) }
         Inference::Refused(f) => refuse(bytes, input, f),
     }
 }
 
 // The same in memory of its own.
-fn make<'a>(bytes: &'a [u8], input: Input, entry: u64, words: &'a [u8])
-    requires { ⌜ Read input (now bytes) × Parted (now bytes) entry (now words) ⌝ }
+fn make<'a>(bytes: &'a [u8], input: Input, version: u64, entry: Halves, words: &'a [u8])
+    requires { ⌜ Read input (now bytes) × Parted (now bytes) version entry (now words) ⌝ }
 {
-    let mut notes = [0u8; ANNOTATION_LENGTH * MOST_INSTRUCTIONS];
-    let mut out = [0u8; HEADER_LENGTH + (WORD_LENGTH + ANNOTATION_LENGTH) * MOST_INSTRUCTIONS];
+    let mut notes = [0u8; LONGEST_ANNOTATION * MOST_INSTRUCTIONS];
+    let mut out = [0u8; LONGEST_CONTAINER];
     let n = words.len() / WORD_LENGTH;
-    let end = ANNOTATION_LENGTH * n;
-    let whole = HEADER_LENGTH + (WORD_LENGTH + ANNOTATION_LENGTH) * n;
+    let f = format_of(version);
+    let end = f.annotation * n;
+    let whole = container_length(version, n);
     make_in(
         bytes,
         input,
+        version,
         entry,
         words,
         &mut notes[..end],
@@ -137,23 +149,18 @@ fn make<'a>(bytes: &'a [u8], input: Input, entry: u64, words: &'a [u8])
     );
 }
 
-// Makes a container of what was read. An input that is too short for an entry set is refused like words of a wrong length: 12, index 0 and
-// no register.
+// Makes a container of what was read. An input that is too short for what stands before the words is refused like words of a wrong length:
+// 12, index 0 and no register.
 fn report(bytes: &[u8], input: Input)
     requires { ⌜ Read input (now bytes) ⌝ }
 {
-    if bytes.len() < ENTRY_LENGTH {
-        let f = Finding {
-            number: WRONG_LENGTH,
-            place: 0,
-            index: 0,
-            register: NO_REGISTER,
-        };
-        refuse(bytes, input, f);
+    if bytes.len() < FRONT_LENGTH {
+        refuse(bytes, input, plain(WRONG_LENGTH, 0, 0));
         return;
     }
-    let entry = load64(&bytes[..ENTRY_LENGTH]);
-    make(bytes, input, entry, &bytes[ENTRY_LENGTH..]);
+    let version = load64(&bytes[..ENTRY]);
+    let entry = halves_in(bytes, ENTRY, 8);
+    make(bytes, input, version, entry, &bytes[FRONT_LENGTH..]);
 }
 
 fn main() {

@@ -1,9 +1,12 @@
 // Opens some parcels, asks for their notes and words, and packs one again: a line for each answer. Words are asked for at indexes inside and
 // outside, and with a count that is made up.
 ghost use mathlib.Core.Path.{_≡_};
+ghost use Prim.Native.Nat.{_<_};
 ghost use lib.ListN.{length};
 use bits::bytes::load64;
 use bits::bytes::wide;
+use bits::halves::Halves;
+use bits::halves::both;
 use container::header::Opening;
 use container::header::open;
 use container::parts::annotations;
@@ -26,13 +29,23 @@ fn word(w: u64) {
     io::print_hex(libc::STDOUT_FILENO, w, 16);
 }
 
+// The entry set; of version 2 that of the low halves and that of the high ones.
+fn say_entry(version: u64, entry: Halves) {
+    text(b" ");
+    word(entry.low);
+    if version == 2 {
+        text(b" ");
+        word(entry.high);
+    }
+}
+
 fn say_opening(bytes: &[u8]) {
     match open(bytes) {
         Opening::Opened(header) => {
             text(b"opened ");
             number(header.count as u64);
-            text(b" ");
-            word(header.entry);
+            let entry = header.entry;
+            say_entry(header.version, entry);
         }
         Opening::Refused(n) => {
             text(b"refused ");
@@ -116,8 +129,8 @@ fn makes_up(bytes: &[u8]) {
 }
 
 // Packs a parcel into a buffer; then the buffer's bytes.
-fn packs(entry: u64, words: &[u8], notes: &[u8], out: &mut [u8]) {
-    match pack(entry, words, notes, out) {
+fn packs(version: u64, entry: Halves, words: &[u8], notes: &[u8], out: &mut [u8]) {
+    match pack(version, entry, words, notes, out) {
         Packing::Packed => text(b"packed"),
         Packing::Refused(n) => {
             text(b"refused ");
@@ -128,17 +141,33 @@ fn packs(entry: u64, words: &[u8], notes: &[u8], out: &mut [u8]) {
     say_bytes(out);
 }
 
-// Takes a parcel of two instructions apart and packs it again, after a part or the buffer had a wrong length.
-fn packs_again(bytes: &[u8], out: &mut [u8])
+// Packs the parts of a parcel of two instructions, after a part or the buffer had a wrong length. The middle of the notes is where half of
+// them ends.
+fn packs_parts(version: u64, entry: Halves, words: &[u8], notes: &[u8], out: &mut [u8])
+    requires { ⌜ (length (now words) ≡ 16) × (0 < length (now out)) ⌝ }
+{
+    let half = notes.len() / 2;
+    let less = out.len() - 1;
+    packs(version, entry, &words[..15], notes, out);
+    packs(version, entry, words, &notes[..half], out);
+    packs(version, entry, words, notes, &mut out[..less]);
+    packs(version, entry, words, notes, out);
+}
+
+// Takes a parcel of version 1 and one of version 2 apart, and packs it again.
+fn packs_first(bytes: &[u8], out: &mut [u8])
     requires { ⌜ (length (now bytes) ≡ 48) × (length (now out) ≡ 48) ⌝ }
 {
-    let entry = load64(&bytes[8..16]);
-    let words = &bytes[16..32];
-    let notes = &bytes[32..48];
-    packs(entry, &words[..15], notes, out);
-    packs(entry, words, &notes[..8], out);
-    packs(entry, words, notes, &mut out[..47]);
-    packs(entry, words, notes, out);
+    let entry = both(load64(&bytes[8..16]));
+    packs_parts(1, entry, &bytes[16..32], &bytes[32..48], out);
+}
+
+fn packs_second(bytes: &[u8], out: &mut [u8])
+    requires { ⌜ (length (now bytes) ≡ 72) × (length (now out) ≡ 72) ⌝ }
+{
+    let low = load64(&bytes[8..16]);
+    let high = load64(&bytes[16..24]);
+    packs_parts(2, Halves { low, high }, &bytes[24..40], &bytes[40..72], out);
 }
 
 // MOV.i32 r1, r2 and NOP with end; r2 and r40 are filled before them.
@@ -148,7 +177,14 @@ fn good() -> [u8; 48]
     *b"VSP\x01\x00\x00\x02\x00\x04\x00\x00\x00\x00\x01\x00\x00\x02\x00\x00\x00\x00\xC1\x91\x00\x00\x00\x00\x00\x00\x00\x00\x78\x04\x00\x00\x00\x00\x00\x00\x00\x06\x00\x00\x00\x00\x01\x00\x00"
 }
 
-fn main() {
+// The same in version 2, where r1 is half filled before them, by the low half, and r40 by the high one.
+fn halved() -> [u8; 72]
+    ensures { λ r. ⌜ 72 ≡ length r ⌝ }
+{
+    *b"VSP\x02\x00\x00\x02\x00\x06\x00\x00\x00\x00\x00\x00\x00\x04\x00\x00\x00\x00\x01\x00\x00\x02\x00\x00\x00\x00\xC1\x91\x00\x00\x00\x00\x00\x00\x00\x00\x78\x06\x00\x00\x00\x00\x00\x00\x00\x04\x00\x00\x00\x00\x00\x00\x00\x06\x00\x00\x00\x00\x00\x00\x00\x06\x00\x00\x00\x00\x01\x00\x00"
+}
+
+fn first_version() {
     let mut parcel = good();
     says(&parcel);
     makes_up(&parcel);
@@ -157,7 +193,34 @@ fn main() {
     makes_up(&parcel[..23]);
     makes_up(&parcel[..0]);
     let mut out = [255u8; 48];
-    packs_again(&parcel, &mut out);
+    packs_first(&parcel, &mut out);
     parcel[5] = 1;
     says(&parcel);
+}
+
+// A parcel of a version that there is not.
+fn unknown(bytes: &[u8]) {
+    says(bytes);
+    if 56 <= bytes.len() {
+        makes_up(&bytes[..56]);
+    }
+}
+
+fn second_version() {
+    let mut parcel = halved();
+    says(&parcel);
+    makes_up(&parcel[..56]);
+    says(&parcel[..71]);
+    says(&parcel[..48]);
+    says(&parcel[..23]);
+    makes_up(&parcel[..31]);
+    let mut out = [255u8; 72];
+    packs_second(&parcel, &mut out);
+    parcel[3] = 3;
+    unknown(&parcel);
+}
+
+fn main() {
+    first_version();
+    second_version();
 }

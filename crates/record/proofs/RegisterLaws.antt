@@ -1,17 +1,18 @@
 -- Laws of what an instruction does to registers: the rows by ranges, and sets of registers made by arithmetic. Assumes nothing.
 use mathlib.Core.Path.{_≡_, refl, sym, ap, _∙_}
-use mathlib.Core.Bool.{Bool, true, false, _&&_, not}
+use mathlib.Core.Bool.{Bool, true, false, _&&_}
 use mathlib.Core.List.{[], _∷_, map}
-use Prim.Native.Nat.{ℕ, _+_, _-_, _*_, _/_, _%_, _^_, _<_, _≤_, max}
+use Prim.Native.Nat.{ℕ, _+_, _-_, _*_, _/_, _%_, _^_, _<_, _≤_}
 use native.Mathlib.Nat.{mod-lt, zero-mul, one-mul, mod-eq-of-lt, div-eq-of-lt}
 use native.Mathlib.Omega.{arith}
-use borrow.Author.Tests.{le-leb, lt-ltb, le-ltb, eq-eqb, ne-eqb, eqb-true, eqb-false, ltb-true, ltb-false, leb-true, leb-false}
+use borrow.Author.Tests.{le-ltb, eq-eqb, ne-eqb, ltb-true, ltb-false, leb-true, leb-false}
 use lib.Bits.{bitOr, or-lt, or-zero-r}
 use lib.Dec.{T, eqb, ltb, leb, eqb→eq}
-use lib.ListN.{length, getD, List·getD-eq-default}
+use lib.ListN.{getD, List·getD-eq-default}
 use lib.Pow.{pow-pos, pow-lt}
 use Rattle.bits.specs.Fields.{bits, choose}
 use Rattle.bits.specs.Sets.{single}
+use Rattle.bits.specs.Halves.{lower, upper, halves}
 use Rattle.bits.proofs.Every.{iff, iff-eq, every, at, and-l, and-r}
 use Rattle.rows.proofs.SetOfLaws.{upto-at}
 use Rattle.rows.specs.Rows.{Row, rows, row-of, row-count, no-row}
@@ -20,7 +21,7 @@ use Rattle.rows.proofs.RowLaws.{four-sources}
 use Rattle.rows.proofs.TableLaws.{count-rows}
 use Rattle.record.specs.served.Counts.{counts-of, counts-at}
 use Rattle.record.specs.Lists.{source-list}
-use Rattle.record.specs.Registers.{reads-register, kills-register, source-set, sources-set, reads, kills, defines}
+use Rattle.record.specs.Registers.{reads-register, kills-register, source-set, sources-set, reads, defines, masked, writes}
 use Rattle.record.specs.declared.instruction.Instruction.{Instruction}
 
 -- rows by ranges
@@ -232,3 +233,14 @@ module _ (i : Instruction) where
     pub full-write : i .«half_mask» ≡ 3 → single (i .register) ≡ defines i
     unfolding defines
     full-write h = rw (d, eq-eqb (i .«half_mask») 3 h)
+
+-- the halves that are written
+module _ (i : Instruction) where
+  pub no-halves : row-of (i .row) .destination ≡ false → halves 0 0 ≡ writes i
+  unfolding writes
+  no-halves e = rw e
+
+  pub halves-written : row-of (i .row) .destination ≡ true → {low high : ℕ} → low ≡ choose (masked lower (i .«half_mask»)) (single (i .register)) 0
+      → high ≡ choose (masked upper (i .«half_mask»)) (single (i .register)) 0 → halves low high ≡ writes i
+  unfolding writes
+  halves-written d p q = rw (p, q, d)

@@ -1,10 +1,12 @@
 -- What an instruction does to registers and where it goes (01, How registers are held), for any record.
 use mathlib.Core.Bool.{Bool, _&&_}
-use Prim.Native.Nat.{ℕ, _%_, _^_}
+use Prim.Native.Nat.{ℕ, _/_, _%_, _^_}
 use lib.Dec.{ltb, leb, eqb}
 use lib.ListN.{getD}
 use Rattle.bits.specs.Fields.{choose}
 use Rattle.bits.specs.Sets.{single, union}
+use Rattle.bits.specs.Halves.{Half, lower, upper, halves}
+use Rattle.bits.specs.declared.halves.Halves.{Halves}
 use Rattle.rows.specs.Rows.{row-of}
 use Rattle.record.specs.Lists.{source-list}
 use Rattle.record.specs.declared.instruction.Instruction.{Instruction}
@@ -36,6 +38,18 @@ kills i = sources-set kills-register i
 -- what it fully writes: its destination, where both halves are written
 unfoldable pub defines : Instruction → ℕ
 defines i = choose (row-of (i .row) .destination && eqb (i .«half_mask») 3) (single (i .register)) 0
+
+-- the half mask has a half of the destination: bit 0 stands for the low one, bit 1 for the high one
+abbrev pub masked : Half → ℕ → Bool
+masked lower mask = eqb (mask % 2) 1
+masked upper mask = eqb (mask / 2 % 2) 1
+
+abbrev pub writes-half : Half → Instruction → ℕ
+writes-half h i = choose (row-of (i .row) .destination && masked h (i .«half_mask»)) (single (i .register)) 0
+
+-- what it writes, by halves (02, Item 7): of its destination the halves in its mask
+unfoldable pub writes : Instruction → Halves
+writes i = halves (writes-half lower i) (writes-half upper i)
 
 -- with flow `end` nothing follows, not even where BRANCHZ has it
 abbrev pub ends : Instruction → Bool

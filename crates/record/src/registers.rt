@@ -3,15 +3,16 @@
 use crate::instruction::Instruction;
 use bits::bytes::wide;
 use bits::fields::bits_at;
+use bits::halves::Halves;
 use bits::sets::single;
 ghost use mathlib.Core.Path.{_≡_};
-ghost use mathlib.Core.Bool.{_&&_, not};
+ghost use mathlib.Core.Bool.{_&&_};
 ghost use Prim.Native.Nat.{_≤_, _<_, _^_, _%_, _/_, _*_};
-ghost use lib.Dec.{ltb, eqb};
+ghost use lib.Dec.{ltb};
 ghost use Rattle.bits.specs.Fields.{choose};
 ghost use Rattle.rows.specs.Rows.{row-of};
 ghost use Rattle.record.specs.served.Counts.{counts-at};
-ghost use Rattle.record.specs.Registers.{reads-register, reads, kills, defines, ends, branches};
+ghost use Rattle.record.specs.Registers.{reads-register, reads, kills, defines, writes, ends, branches};
 
 const BRANCH_ROW: u8 = 1;
 
@@ -68,6 +69,13 @@ fn kill_set(read: u64, source: u8) -> u64
     read * (wide(source) / 64 % 2)
 }
 
+// A set, or the empty one.
+fn set_if(t: bool, s: u64) -> u64
+    ensures { λ r. ⌜ r ≡ choose t s 0 ⌝ }
+{
+    if t { s } else { 0 }
+}
+
 impl Instruction {
     // The registers that it reads, and those that it releases.
     pub fn uses(self) -> Uses
@@ -114,6 +122,20 @@ impl Instruction {
             return 0;
         }
         single(self.register)
+    }
+
+    // The halves of its destination that it writes, if it has one.
+    pub fn writes(self) -> Halves
+        ensures { λ r. ⌜ r ≡ writes self ⌝ }
+    {
+        if !has_destination(self.row) {
+            return Halves { low: 0, high: 0 };
+        }
+        let s = single(self.register);
+        let mask = self.half_mask;
+        let low = set_if(mask % 2 == 1, s);
+        let high = set_if(mask / 2 % 2 == 1, s);
+        Halves { low, high }
     }
 
     // Whether its flow is `end`.

@@ -4,8 +4,9 @@ use mathlib.Core.List.{List}
 use Prim.Native.Nat.{ℕ, _<_}
 use lib.Dec.{T}
 use lib.Pow.{areBytes}
-use Rattle.bits.specs.Outcomes.{Outcome, gives, refuses, passes, _then_}
+use Rattle.bits.specs.Outcomes.{Outcome, gives, refuses, passes, _then_, first}
 use Rattle.bits.proofs.OutcomeLaws.{never}
+use Rattle.bits.proofs.FirstLaws.{both, neither, first-of, first-to}
 use Rattle.record.specs.declared.instruction.Instruction.{Instruction}
 use Rattle.record.specs.declared.answer.Refusal.{Refusal}
 use Rattle.reading.specs.Reader.{read}
@@ -15,10 +16,9 @@ use Rattle.container.specs.Opening.{Rejection, open-outcome, Opens}
 use Rattle.container.proofs.OpeningLaws.{sized, opened}
 use Rattle.walks.specs.Walks.{AllSafe}
 use Rattle.safety.specs.Program.{machine, program-of, machine-of, WellFormed}
-use Rattle.safety.specs.Verdict.{Judgement, first, judge-opening, judge-reading, judge-word, judge-program, verdict-of}
+use Rattle.safety.specs.Verdict.{Judgement, judge-opening, judge-reading, judge-word, judge-program, verdict-of}
 use Rattle.safety.specs.Demand3.{Demand3At, Demand3}
 use Rattle.walks.proofs.WalkLaws.{sound, complete}
-use Rattle.safety.proofs.VerdictLaws.{both, neither, first-of, first-to}
 use Rattle.safety.proofs.ProgramLaws.{passes-of, passes-to, adds-dec, needs-fact, claims-fact, goes-on}
 
 -- what passes opens, and its words read
@@ -50,13 +50,13 @@ accepted s e =
       b .1,
     )
 
-accepts : (s : List ℕ) → WellFormed s → judge-program (program-of s) ≡ passes → verdict-of s ≡ passes
+pub accepts : (s : List ℕ) → WellFormed s → judge-program (program-of s) ≡ passes → verdict-of s ≡ passes
 unfolding verdict-of
 accepts s f e =
     neither (ap judge-opening (f .opens))
     (neither (first-to (judge-word (words-of s)) (count-of s) (λ i l. ap (judge-reading i) (f .reads i l .1))) e)
 
-some : (s : List ℕ) → WellFormed s → 0 < machine-of s .count
+pub some : (s : List ℕ) → WellFormed s → 0 < machine-of s .count
 unfolding machine
 some s f = sized s (f .opens) .some
 
@@ -65,8 +65,9 @@ safe s e =
     let a = accepted s e in
     (a .0, λ w v. sound (machine-of s) (some s (a .0)) (passes-of (program-of s) (a .1)) v)
 
-pub demand3 : Demand3 verdict-of
-demand3 s t = record {
+-- so of all bytes, whatever their version
+pub demand3-at : (s : List ℕ) → T (areBytes s) → Demand3At s (verdict-of s ≡ passes)
+demand3-at s t = record {
   sound = safe s;
   complete = λ f all reached exact.
       accepts s f (passes-to (program-of s)
@@ -74,6 +75,9 @@ demand3 s t = record {
   goes-on = λ e. goes-on (program-of s) (safe s e .1);
 }
 
+pub demand3 : (v : ℕ) → Demand3 v verdict-of
+demand3 v s t e = demand3-at s t
+
 -- a judgement that agrees with the verdict meets the demand too
 pub agreed : (s : List ℕ) (v : Judgement) → T (areBytes s) → v ≡ verdict-of s → Demand3At s (v ≡ passes)
-agreed s v t e = subst (λ (x : Judgement). Demand3At s (x ≡ passes)) (sym e) (demand3 s t)
+agreed s v t e = subst (λ (x : Judgement). Demand3At s (x ≡ passes)) (sym e) (demand3-at s t)

@@ -1,28 +1,29 @@
 -- The order in which the code goes: one pass over the words finds what reading all of them and then judging the program finds. Assumes
 -- nothing.
-use mathlib.Core.Path.{_≡_, refl, sym, ap, _∙_}
+use mathlib.Core.Path.{_≡_, refl, sym, ap, ap₂, _∙_}
 use mathlib.Core.Bool.{true, false}
 use mathlib.Core.List.{List}
-use Prim.Native.Nat.{ℕ, _+_, _-_, _*_, _<_}
+use Prim.Native.Nat.{ℕ, _+_, _*_, _<_}
 use lib.IntN.{ℤ, pos, _+ℤ_}
-use lib.ListN.{length, take, drop}
-use Rattle.bits.specs.Sets.{minus, union}
-use Rattle.bits.specs.Outcomes.{Outcome, gives, refuses, passes, _then_}
+use lib.ListN.{length}
+use Rattle.bits.proofs.FirstLaws.{then-none, first-more, first-stop}
+use Rattle.container.specs.Formats.{word-length, annotation-length}
+use Rattle.bits.specs.Halves.{both}
+use Rattle.bits.specs.Outcomes.{Outcome, gives, refuses, passes, _then_, first, each}
 use Rattle.bits.proofs.OutcomeLaws.{then-passed, then-refused}
 use Rattle.record.specs.declared.instruction.Instruction.{Instruction}
 use Rattle.record.specs.declared.answer.Refusal.{Refusal}
 use Rattle.reading.specs.Reader.{read}
 use Rattle.record.specs.Registers.{ends, branches}
 use Rattle.container.specs.declared.header.Header.{Header}
-use Rattle.container.specs.Container.{header-length, word-length, annotation-length, annotations-start, words-of, annotations-of, eight}
+use Rattle.container.specs.Container.{words-of, annotations-of, eight}
 use Rattle.container.specs.Opening.{unplaced, open-outcome}
-use Rattle.container.proofs.OpeningLaws.{sized, length-words, length-annotations, words-to, annotations-from}
-use Rattle.safety.specs.Program.{Program, successors, landing, after, instruction-in, instruction-at, annotation-at, program-in, Worded, Annotated}
+use Rattle.container.proofs.OpeningLaws.{sized, length-words, length-annotations}
+use Rattle.safety.specs.Program.{Program, successors, instruction-in, instruction-at, annotation-at, program-in, Worded, Annotated}
 use Rattle.safety.specs.declared.verdict.Finding.{Finding}
 use Rattle.safety.specs.declared.verdict.Verdict.{Verdict}
 use Rattle.safety.specs.declared.verdict.Verdict.the-variants.{Accepted, Refused}
-use Rattle.safety.specs.Verdict.{Judgement, verdict-outcome, finding, no-register, first, each, none-missing, judge-opening, judge-reading, judge-word, judge-successor, judge-flow, judge-index, judge-program, verdict-of, all-read}
-use Rattle.safety.proofs.VerdictLaws.{then-none, first-more, first-stop}
+use Rattle.safety.specs.Verdict.{Judgement, verdict-outcome, none-missing, judge-opening, judge-reading, judge-word, judge-flow, judge-index, judge-program, verdict-of, all-read, plain}
 
 -- a verdict and what follows it
 pub followed : {r : Verdict} {a b c : Judgement} → r ≡ Accepted → verdict-outcome r ≡ a → c ≡ b → c ≡ (a then b)
@@ -56,7 +57,7 @@ module _ (words : List ℕ) where
   module _ (i n : ℕ) (h : first (judge-word words) i ≡ passes) where
     -- a word that does not read, at index i
     pub unread : {f : Refusal} {r : Judgement} (b : Judgement) → i < n → refuses f ≡ read (eight words i)
-        → r ≡ refuses (finding (f .number) (f .place) i no-register) → r ≡ (first (judge-word words) n then b)
+        → r ≡ refuses (plain (f .number) (f .place) i) → r ≡ (first (judge-word words) n then b)
     unread b l e q = q ∙ sym (then-refused b (first-stop (judge-word words) i n l h (sym (ap (judge-reading i) e))))
 
     -- all n read
@@ -64,9 +65,9 @@ module _ (words : List ℕ) where
     ended b q = sym (then-passed b (ap (first (judge-word words)) (sym q) ∙ h))
 
 -- the pass over n words and annotations
-module _ (words annotations : List ℕ) (n : ℕ) where
+module _ (v : ℕ) (words annotations : List ℕ) (n : ℕ) where
   abbrev P : Program
-  P = program-in words annotations n 0
+  P = program-in v words annotations n (both 0)
 
   -- the words before index i read, and the instructions before it pass
   pub record Passed (i : ℕ) : Type 0 where
@@ -79,14 +80,14 @@ module _ (words annotations : List ℕ) (n : ℕ) where
 
   module _ {i : ℕ} (p : Passed i) where
     module _ {x : Instruction} (e : gives x ≡ read (eight words i)) where
-      same : {v : Judgement} → v ≡ judge-flow n (annotation-at annotations) i x → v ≡ judge-index P i
+      same : {w : Judgement} → w ≡ judge-flow v n (annotation-at v annotations) i x → w ≡ judge-index P i
       unfolding instruction-at
-      same q = q ∙ ap (λ (y : Outcome Refusal Instruction). judge-flow n (annotation-at annotations) i (instruction-in y)) e
+      same q = q ∙ ap (λ (y : Outcome Refusal Instruction). judge-flow v n (annotation-at v annotations) i (instruction-in y)) e
 
-      pub turns : {v : Judgement} → v ≡ judge-flow n (annotation-at annotations) i x → v ≡ passes → Passed (i + 1)
+      pub turns : {w : Judgement} → w ≡ judge-flow v n (annotation-at v annotations) i x → w ≡ passes → Passed (i + 1)
       turns q z = record { reads = read-on words i (p .reads) e; judged = first-more (judge-index P) i (p .judged) (sym (same q) ∙ z) }
 
-      pub fails : {v r : Judgement} {f : Finding} → i < n → v ≡ judge-flow n (annotation-at annotations) i x → v ≡ refuses f
+      pub fails : {w r : Judgement} {f : Finding} → i < n → w ≡ judge-flow v n (annotation-at v annotations) i x → w ≡ refuses f
           → r ≡ (first (judge-word words) n then refuses f) → r ≡ (first (judge-word words) n then first (judge-index P) n)
       fails l q z er = er ∙ ap (λ (b : Judgement). first (judge-word words) n then b) (sym (first-stop (judge-index P) i n l (p .judged) (sym (same q) ∙ z)))
 
@@ -94,51 +95,51 @@ module _ (words annotations : List ℕ) (n : ℕ) where
     passed-all q = sym (ap (first (judge-index P)) (sym q) ∙ p .judged) ∙ ended words i n (p .reads) (first (judge-index P) n) q
 
 -- 23 before the instructions, and after the words
-module _ (words annotations : List ℕ) (n entry : ℕ) {v : Judgement} (hv : v ≡ none-missing 23 0 (annotation-at annotations 0) entry) where
-  pub entered : {r : Judgement} → v ≡ passes → r ≡ (first (judge-word words) n then first (judge-index (program-in words annotations n entry)) n) → r ≡ (first (judge-word words) n then judge-program (program-in words annotations n entry))
-  unfolding judge-program
-  entered z e = e ∙ ap (λ (b : Judgement). first (judge-word words) n then b) (sym (then-passed _ (sym hv ∙ z)))
+module _ (words : List ℕ) (p : Program) {w : Judgement} (hw : w ≡ none-missing 23 0 (p .annotation 0) (p .entry)) where
+  abbrev n : ℕ
+  n = p .count
 
-  pub barred : {f : Finding} {r : Judgement} → v ≡ refuses f → r ≡ (first (judge-word words) n then refuses f) → r ≡ (first (judge-word words) n then judge-program (program-in words annotations n entry))
+  pub entered : {r : Judgement} → w ≡ passes → r ≡ (first (judge-word words) n then first (judge-index p) n) → r ≡ (first (judge-word words) n then judge-program p)
   unfolding judge-program
-  barred z e = e ∙ ap (λ (b : Judgement). first (judge-word words) n then b) (sym (then-refused _ (sym hv ∙ z)))
+  entered z e = e ∙ ap (λ (b : Judgement). first (judge-word words) n then b) (sym (then-passed _ (sym hw ∙ z)))
+
+  pub barred : {f : Finding} {r : Judgement} → w ≡ refuses f → r ≡ (first (judge-word words) n then refuses f) → r ≡ (first (judge-word words) n then judge-program p)
+  unfolding judge-program
+  barred z e = e ∙ ap (λ (b : Judgement). first (judge-word words) n then b) (sym (then-refused _ (sym hw ∙ z)))
 
 -- a container that does not open
-pub unopened : (s : List ℕ) {n : ℕ} {r : Judgement} → open-outcome s ≡ refuses (unplaced n) → r ≡ refuses (finding n 0 0 no-register) → r ≡ verdict-of s
+pub unopened : (s : List ℕ) {n : ℕ} {r : Judgement} → open-outcome s ≡ refuses (unplaced n) → r ≡ refuses (plain n 0 0) → r ≡ verdict-of s
 unfolding verdict-of
 unopened s o e = e ∙ sym (then-refused _ (ap judge-opening o))
 
-pub unopened-read : (s : List ℕ) {n : ℕ} {r : Judgement} → open-outcome s ≡ refuses (unplaced n) → r ≡ refuses (finding n 0 0 no-register) → r ≡ all-read s
+pub unopened-read : (s : List ℕ) {n : ℕ} {r : Judgement} → open-outcome s ≡ refuses (unplaced n) → r ≡ refuses (plain n 0 0) → r ≡ all-read s
 unfolding all-read
 unopened-read s o e = e ∙ sym (then-refused _ (ap judge-opening o))
 
 -- one that does: its words and annotations, as they are lent, and the verdict on them
-module _ (s notes : List ℕ) (h : Header) (o : open-outcome s ≡ gives h) (notes-are : notes ≡ annotations-of s) where
-  abbrev n : ℕ
-  n = h .count
+module _ (s words notes : List ℕ) (h : Header) (o : open-outcome s ≡ gives h) (words-are : words ≡ words-of s) (notes-are : notes ≡ annotations-of s) where
+  abbrev Count : ℕ
+  Count = h .count
 
-  abbrev Words : List ℕ
-  Words = take (annotations-start n - header-length) (drop header-length s)
-
-  words-are : Words ≡ words-of s
-  words-are = words-to s o (annotations-start n) (ap annotations-start (sized s o .counts))
-
-  pub worded : Worded Words n
+  pub worded : Worded words Count
   worded =
       let z = sized s o in
       record { few = rw (z .counts) (z .few); long = ap length words-are ∙ length-words s o ∙ ap (λ (k : ℕ). word-length * k) (sym (z .counts)) }
 
-  pub annotated : Annotated notes n
+  pub annotated : Annotated (h .version) notes Count
   annotated =
       let z = sized s o in
-      record { few = rw (z .counts) (z .few); long = ap length notes-are ∙ length-annotations s o ∙ ap (λ (k : ℕ). annotation-length * k) (sym (z .counts)) }
+      record {
+        few = rw (z .counts) (z .few);
+        long = ap length notes-are ∙ length-annotations s o ∙ ap₂ (λ (v k : ℕ). annotation-length v * k) (sym (z .versions)) (sym (z .counts));
+      }
 
-  pub opened-to : {r : Judgement} → r ≡ (first (judge-word Words) n then judge-program (program-in Words notes n (h .entry))) → r ≡ verdict-of s
+  pub opened-to : {r : Judgement} → r ≡ (first (judge-word words) Count then judge-program (program-in (h .version) words notes Count (h .entry))) → r ≡ verdict-of s
   unfolding verdict-of
   opened-to e =
       let z = sized s o in
-      e ∙ rw (words-are, notes-are, z .counts, z .enters) (sym (then-passed _ (ap judge-opening o)))
+      e ∙ rw (words-are, notes-are, z .versions, z .counts, z .enters) (sym (then-passed _ (ap judge-opening o)))
 
-  pub opened-read : {r : Judgement} → r ≡ first (judge-word Words) n → r ≡ all-read s
+  pub opened-read : {r : Judgement} → r ≡ first (judge-word words) Count → r ≡ all-read s
   unfolding all-read
   opened-read e = e ∙ rw (words-are, sized s o .counts) (sym (then-passed _ (ap judge-opening o)))

@@ -4,7 +4,8 @@ use mathlib.Core.List.{List}
 use mathlib.Core.Logic.{⊎-elim}
 use Prim.Native.Nat.{ℕ, _<_}
 use native.Mathlib.Omega.{arith}
-use Rattle.bits.specs.Outcomes.{Outcome, gives, refuses, passes, _then_}
+use Rattle.bits.proofs.FirstLaws.{either, first-of, first-to, first-stop, first-refused}
+use Rattle.bits.specs.Outcomes.{Outcome, gives, refuses, passes, _then_, first}
 use Rattle.bits.proofs.OutcomeLaws.{never, told, then-passed, then-refused}
 use Rattle.record.specs.declared.instruction.Instruction.{Instruction}
 use Rattle.record.specs.declared.answer.Refusal.{Refusal}
@@ -15,9 +16,8 @@ use Rattle.container.specs.Opening.{open-outcome, Opens}
 use Rattle.container.proofs.OpeningLaws.{length-words}
 use Rattle.safety.specs.declared.verdict.Finding.{Finding}
 use Rattle.safety.specs.Program.{program-of, WellFormed}
-use Rattle.safety.specs.Verdict.{Judgement, finding, no-register, first, judge-opening, judge-reading, judge-word, judge-program, verdict-of}
+use Rattle.safety.specs.Verdict.{Judgement, judge-opening, judge-reading, judge-word, judge-program, verdict-of, plain}
 use Rattle.safety.specs.Passed.{ReadBefore, Unreadable, PassedOn, PassesOn}
-use Rattle.safety.proofs.VerdictLaws.{either, first-of, first-to, first-stop, first-refused}
 use Rattle.safety.proofs.NumberedLaws.{opened-numbers, program-numbers, whole-words-numbers}
 use Rattle.safety.proofs.Demand3.{word-of}
 
@@ -37,6 +37,7 @@ words-passed-on words n {f} e =
           before = λ k m. word-of words k (first-of (judge-word words) i h k m);
           refused = p;
           register = refl;
+          half = refl;
           stray = λ d. bytes-stray (eight words i) g p d .1;
         })
 
@@ -58,7 +59,7 @@ module _ (s : List ℕ) where
     words-told e = then-passed _ (ap judge-opening o) ∙ then-refused _ e
 
     lowest-told : (i : ℕ) → i < count-of s → ReadBefore (words-of s) i → (f : Refusal) → read (eight (words-of s) i) ≡ refuses f
-        → verdict-of s ≡ refuses (finding (f .number) (f .place) i no-register)
+        → verdict-of s ≡ refuses (plain (f .number) (f .place) i)
     lowest-told i l h f e =
         words-told (first-stop (judge-word (words-of s)) i (count-of s) l (first-to (judge-word (words-of s)) i (λ k m. ap (judge-reading k) (h k m .1))) (ap (judge-reading i) e))
 

@@ -2,14 +2,14 @@
 use mathlib.Core.Path.{_≡_, sym, ap, _∙_}
 use mathlib.Core.List.{List}
 use Prim.Native.Nat.{ℕ}
-use Rattle.bits.specs.Outcomes.{refuses, passes, _then_}
+use Rattle.bits.proofs.FirstLaws.{both, neither, then-assoc, first-of, first-to}
+use Rattle.bits.specs.Outcomes.{refuses, passes, _then_, first}
 use Rattle.bits.proofs.OutcomeLaws.{then-refused}
 use Rattle.container.specs.Container.{count-of, words-of}
 use Rattle.container.specs.Opening.{open-outcome}
 use Rattle.safety.specs.declared.verdict.Finding.{Finding}
 use Rattle.safety.specs.Program.{program-of, WellFormed}
-use Rattle.safety.specs.Verdict.{first, judge-opening, judge-reading, judge-word, judge-program, verdict-of, all-read}
-use Rattle.safety.proofs.VerdictLaws.{both, neither, then-assoc, first-of, first-to}
+use Rattle.safety.specs.Verdict.{judge-opening, judge-reading, judge-word, judge-program, verdict-of, all-read}
 use Rattle.safety.proofs.Demand3.{opening-of, word-of}
 
 module _ (s : List ℕ) where

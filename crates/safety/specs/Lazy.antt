@@ -2,11 +2,11 @@
 use mathlib.Core.Path.{_≡_}
 use mathlib.Core.List.{List}
 use Prim.Native.Nat.{ℕ}
-use Rattle.bits.specs.Outcomes.{passes, _then_}
+use Rattle.bits.specs.Outcomes.{passes, _then_, first}
 use Rattle.container.specs.Container.{count-of, words-of}
 use Rattle.container.specs.Opening.{open-outcome}
 use Rattle.safety.specs.Program.{program-of}
-use Rattle.safety.specs.Verdict.{Judgement, first, none-missing, judge-opening, judge-word, judge-index}
+use Rattle.safety.specs.Verdict.{Judgement, none-missing, judge-opening, judge-word, judge-index}
 
 -- the verdict with only instruction 0 judged
 unfoldable pub first-only : List ℕ → Judgement

@@ -1,5 +1,6 @@
 // A program line by line, with the line above that names the columns.
 use container::layout::MOST_INSTRUCTIONS;
+use flow::annotation_at;
 use safety::verdict::Verdict;
 use showlines::line::number_at;
 use showlines::line::put_line;
@@ -49,6 +50,7 @@ fn put_title(width: usize, out: &mut [u8]) -> usize
 
 // The line of instruction i of n, and the text more where it is at fault.
 fn put_entry(
+    version: u64,
     marks: &[u8; MOST_INSTRUCTIONS],
     words: &[u8],
     notes: &[u8],
@@ -59,11 +61,11 @@ fn put_entry(
     i: usize,
     out: &mut [u8],
 ) -> usize
-    requires { ⌜ (now marks ≡ marks-of (now words) n n) × Worded (now words) n × Annotated (now notes) n × (width ≤ longest-column) × (length (now fault) ≤ longest-fault) × (i < n) × (longest-line + longest-fault ≤ length (now out)) ⌝ }
-    ensures { λ r. ⌜ Put (line (now (words .entry)) (now (notes .entry)) n width i ++ choose (eqb i faulty) (now (fault .entry)) []) (now (out .entry)) (now (out .exit)) r × (r ≤ longest-line + longest-fault) ⌝ }
+    requires { ⌜ (now marks ≡ marks-of (now words) n n) × Worded (now words) n × Annotated version (now notes) n × (width ≤ longest-column) × (length (now fault) ≤ longest-fault) × (i < n) × (longest-line + longest-fault ≤ length (now out)) ⌝ }
+    ensures { λ r. ⌜ Put (line version (now (words .entry)) (now (notes .entry)) n width i ++ choose (eqb i faulty) (now (fault .entry)) []) (now (out .entry)) (now (out .exit)) r × (r ≤ longest-line + longest-fault) ⌝ }
 {
     let w = number_at(words, n, i);
-    let note = number_at(notes, n, i);
+    let note = annotation_at(version, notes, n, i);
     let at = put_line(marks[i] == 1, n, width, i, w, note, out);
     if i != faulty {
         return at;
@@ -73,6 +75,7 @@ fn put_entry(
 
 // The lines.
 fn put_lines(
+    version: u64,
     marks: &[u8; MOST_INSTRUCTIONS],
     words: &[u8],
     notes: &[u8],
@@ -82,13 +85,14 @@ fn put_lines(
     fault: &[u8],
     out: &mut [u8],
 ) -> usize
-    requires { ⌜ (now marks ≡ marks-of (now words) n n) × Worded (now words) n × Annotated (now notes) n × (width ≤ longest-column) × (length (now fault) ≤ longest-fault) × ((longest-line + longest-fault) * n ≤ length (now out)) ⌝ }
-    ensures { λ r. ⌜ Put (lines (now (words .entry)) (now (notes .entry)) n width faulty (now (fault .entry)) n) (now (out .entry)) (now (out .exit)) r × (r ≤ (longest-line + longest-fault) * n) ⌝ }
+    requires { ⌜ (now marks ≡ marks-of (now words) n n) × Worded (now words) n × Annotated version (now notes) n × (width ≤ longest-column) × (length (now fault) ≤ longest-fault) × ((longest-line + longest-fault) * n ≤ length (now out)) ⌝ }
+    ensures { λ r. ⌜ Put (lines version (now (words .entry)) (now (notes .entry)) n width faulty (now (fault .entry)) n) (now (out .entry)) (now (out .exit)) r × (r ≤ (longest-line + longest-fault) * n) ⌝ }
 {
     let mut at = 0;
     let mut i = 0;
     while i < n {
         at += put_entry(
+            version,
             marks,
             words,
             notes,
@@ -104,10 +108,17 @@ fn put_lines(
     at
 }
 
-// The program of n words and notes, with a verdict on it.
-pub(crate) fn put_program(words: &[u8], notes: &[u8], n: usize, v: Verdict, out: &mut [u8]) -> usize
-    requires { ⌜ Worded (now words) n × Annotated (now notes) n × (longest-title + (longest-line + longest-fault) * n + 1 ≤ length (now out)) ⌝ }
-    ensures { λ r. ⌜ Put (program-text (now (words .entry)) (now (notes .entry)) n (verdict-outcome v)) (now (out .entry)) (now (out .exit)) r × (r ≤ longest-title + (longest-line + longest-fault) * n + 1) ⌝ }
+// The program of n words and notes of a version, with a verdict on it.
+pub(crate) fn put_program(
+    version: u64,
+    words: &[u8],
+    notes: &[u8],
+    n: usize,
+    v: Verdict,
+    out: &mut [u8],
+) -> usize
+    requires { ⌜ Worded (now words) n × Annotated version (now notes) n × (longest-title + (longest-line + longest-fault) * n + 1 ≤ length (now out)) ⌝ }
+    ensures { λ r. ⌜ Put (program-text version (now (words .entry)) (now (notes .entry)) n (verdict-outcome v)) (now (out .entry)) (now (out .exit)) r × (r ≤ longest-title + (longest-line + longest-fault) * n + 1) ⌝ }
 {
     let mut fault = [0u8; LONGEST_FAULT];
     let k = put_fault(v, &mut fault);
@@ -115,6 +126,7 @@ pub(crate) fn put_program(words: &[u8], notes: &[u8], n: usize, v: Verdict, out:
     let width = widest(words, n);
     let mut at = put_title(width, out);
     at += put_lines(
+        version,
         &marks,
         words,
         notes,

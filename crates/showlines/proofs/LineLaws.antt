@@ -1,20 +1,22 @@
 -- The lines of a program one after another. Assumes nothing.
-use mathlib.Core.Path.{_≡_, refl, sym, ap, ap₂, _∙_}
+use mathlib.Core.Path.{_≡_, refl, sym, ap, _∙_}
 use mathlib.Core.Bool.{Bool, true, false, _||_}
 use mathlib.Core.List.{List, [], _∷_, _++_, append-assoc, append-nil}
-use Prim.Native.Nat.{ℕ, zero, suc, _+_, _-_, _*_, _<_, _≤_, max}
+use Prim.Native.Nat.{ℕ, zero, suc, _+_, _-_, _<_, _≤_, max}
 use native.Mathlib.Omega.{arith}
 use native.Mathlib.Numerals.{add-one}
-use borrow.Author.Tests.{lt-ltb, le-ltb, eq-eqb, ne-eqb, ltb-true, ltb-false, eqb-true, eqb-false}
+use borrow.Author.Tests.{lt-ltb, le-ltb, eq-eqb, ne-eqb, ltb-false, eqb-true, eqb-false}
 use lib.Dec.{eqb, ltb}
 use lib.ListN.{length, getD, set, replicate, length-set, length-replicate, getD-replicate}
 use lib.Seq.{getD-set-same, getD-set-other}
+use Rattle.container.specs.Formats.{most-instructions}
 use Rattle.bits.specs.Fields.{choose}
+use Rattle.bits.specs.declared.halves.Halves.{Halves}
+use Rattle.safety.specs.Program.{annotation-at}
 use Rattle.bits.specs.Outcomes.{Outcome, gives, refuses}
 use Rattle.rows.specs.Names.{ascii}
 use Rattle.record.specs.declared.instruction.Instruction.{Instruction}
 use Rattle.record.specs.declared.answer.Refusal.{Refusal}
-use Rattle.container.specs.Container.{most-instructions}
 use Rattle.text.specs.Text.{space, line-feed, decimal, hex, Put}
 use Rattle.text.proofs.TextLaws.{put-nothing}
 use Rattle.registertext.specs.Registers.{registers-text}
@@ -117,30 +119,30 @@ mark-tells words n i e f h = ap (λ (l : List ℕ). eqb (getD l i 0) 1) e ∙ ap
 
 -- ---- the lines
 
-pub one-line : (mark : Bool) (n width i w note : ℕ)
+pub one-line : (mark : Bool) (n width i w : ℕ) (note : Halves)
     → mark-text mark ++ decimal 4 i ++ ascii "  " ++ hex 16 w ++ ascii "  " ++ padded width (column-of n i w) ++ ascii "  " ++ registers-text note ++ (line-feed ∷ [])
     ≡ line-text mark n width i w note
 unfolding line-text
 one-line mark n width i w note = refl
 
-module _ (words notes : List ℕ) (n width at : ℕ) (fault : List ℕ) where
-  pub same-line : (i : ℕ) {mark : Bool} {w note : ℕ} → mark ≡ targeted words n n i → w ≡ number-in words i → note ≡ number-in notes i
-      → line-text mark n width i w note ≡ line words notes n width i
+module _ (v : ℕ) (words notes : List ℕ) (n width at : ℕ) (fault : List ℕ) where
+  pub same-line : (i : ℕ) {mark : Bool} {w : ℕ} {note : Halves} → mark ≡ targeted words n n i → w ≡ number-in words i → note ≡ annotation-at v notes i
+      → line-text mark n width i w note ≡ line v words notes n width i
   same-line i e f g = rw (e, f, g)
 
-  pub not-here : (i : ℕ) → (i ≡ at → ⊥) → line words notes n width i ≡ line words notes n width i ++ choose (eqb i at) fault []
-  not-here i h = rw (ne-eqb i at h) (sym (append-nil (line words notes n width i)))
+  pub not-here : (i : ℕ) → (i ≡ at → ⊥) → line v words notes n width i ≡ line v words notes n width i ++ choose (eqb i at) fault []
+  not-here i h = rw (ne-eqb i at h) (sym (append-nil (line v words notes n width i)))
 
-  pub here : (i : ℕ) → i ≡ at → line words notes n width i ++ fault ≡ line words notes n width i ++ choose (eqb i at) fault []
+  pub here : (i : ℕ) → i ≡ at → line v words notes n width i ++ fault ≡ line v words notes n width i ++ choose (eqb i at) fault []
   here i h = rw (eq-eqb i at h)
 
-  pub no-lines : (before : List ℕ) → Put (lines words notes n width at fault 0) before before 0
+  pub no-lines : (before : List ℕ) → Put (lines v words notes n width at fault 0) before before 0
   unfolding lines
   no-lines = put-nothing refl
 
   pub line-more : (k : ℕ)
-      → lines words notes n width at fault k ++ (line words notes n width k ++ choose (eqb k at) fault [])
-      ≡ lines words notes n width at fault (k + 1)
+      → lines v words notes n width at fault k ++ (line v words notes n width k ++ choose (eqb k at) fault [])
+      ≡ lines v words notes n width at fault (k + 1)
   unfolding lines
   line-more k = rw (add-one k)
 

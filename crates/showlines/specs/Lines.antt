@@ -11,12 +11,14 @@ use Rattle.rows.specs.Names.{ascii}
 use Rattle.record.specs.declared.instruction.Instruction.{Instruction}
 use Rattle.record.specs.declared.answer.Refusal.{Refusal}
 use Rattle.reading.specs.Reader.{read-number}
+use Rattle.bits.specs.declared.halves.Halves.{Halves}
 use Rattle.container.specs.Container.{eight}
+use Rattle.safety.specs.Program.{annotation-at}
 use Rattle.text.specs.Text.{space, line-feed, decimal, hex}
 use Rattle.registertext.specs.Registers.{registers-text, longest-registers}
 use Rattle.wordtext.specs.Columns.{jumps, lands, column-of, longest-column}
 
--- the word at index i of some words, or the note at index i of some notes
+-- the word at index i of some words
 abbrev pub number-in : List ℕ → ℕ → ℕ
 number-in l i = little (eight l i)
 
@@ -49,7 +51,7 @@ abbrev pub mark-text : Bool → List ℕ
 mark-text t = choose t (ascii ">") (ascii " ")
 
 -- the line of the word w at index i of n, with a mark or none, and with its note; the column for its text has a width
-unfoldable pub line-text : Bool → ℕ → ℕ → ℕ → ℕ → ℕ → List ℕ
+unfoldable pub line-text : Bool → ℕ → ℕ → ℕ → ℕ → Halves → List ℕ
 line-text mark n width i w note =
     mark-text mark
     ++ decimal 4 i
@@ -61,15 +63,15 @@ line-text mark n width i w note =
     ++ registers-text note
     ++ (line-feed ∷ [])
 
--- the line of instruction i of n
-abbrev pub line : List ℕ → List ℕ → ℕ → ℕ → ℕ → List ℕ
-line words notes n width i = line-text (targeted words n n i) n width i (number-in words i) (number-in notes i)
+-- the line of instruction i of n, with the note that a version has there
+abbrev pub line : ℕ → List ℕ → List ℕ → ℕ → ℕ → ℕ → List ℕ
+line v words notes n width i = line-text (targeted words n n i) n width i (number-in words i) (annotation-at v notes i)
 
 -- the lines of the first k instructions, with one more text below the one at index `at`
-unfoldable pub lines : List ℕ → List ℕ → ℕ → ℕ → ℕ → List ℕ → ℕ → List ℕ
-lines words notes n width at fault zero = []
-lines words notes n width at fault (suc k) =
-    lines words notes n width at fault k ++ (line words notes n width k ++ choose (eqb k at) fault [])
+unfoldable pub lines : ℕ → List ℕ → List ℕ → ℕ → ℕ → ℕ → List ℕ → ℕ → List ℕ
+lines v words notes n width at fault zero = []
+lines v words notes n width at fault (suc k) =
+    lines v words notes n width at fault k ++ (line v words notes n width k ++ choose (eqb k at) fault [])
 
 -- the line above them, which names the columns
 unfoldable pub title : ℕ → List ℕ

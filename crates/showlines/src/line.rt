@@ -1,5 +1,6 @@
 // The lines for the words of a program.
 use bits::bytes::load64;
+use bits::halves::Halves;
 use container::layout::WORD_LENGTH;
 use registertext::put_registers;
 use text::put::put_byte;
@@ -11,8 +12,8 @@ ghost use mathlib.Core.Path.{_≡_};
 ghost use mathlib.Core.List.{[], _∷_, _++_};
 ghost use Prim.Native.Nat.{_*_, _<_, _≤_, max};
 ghost use lib.ListN.{length};
+ghost use Rattle.container.specs.Formats.{most-instructions};
 ghost use Rattle.rows.specs.Names.{ascii};
-ghost use Rattle.container.specs.Container.{most-instructions};
 ghost use Rattle.safety.specs.Program.{Worded};
 ghost use Rattle.text.specs.Text.{decimal, hex, Put};
 ghost use Rattle.wordtext.specs.Columns.{column-of, longest-column};
@@ -31,7 +32,7 @@ pub const LONGEST: usize = 1
     + registertext::LONGEST
     + 1;
 
-// The word at index i of n words, or the note at index i of n notes.
+// The word at index i of n words.
 pub fn number_at(bytes: &[u8], n: usize, i: usize) -> u64
     requires { ⌜ (length (now bytes) ≡ 8 * n) × (n ≤ most-instructions) × (i < n) ⌝ }
     ensures { λ w. ⌜ w ≡ number-in (now (bytes .entry)) i ⌝ }
@@ -101,7 +102,7 @@ pub fn put_line(
     width: usize,
     i: usize,
     w: u64,
-    note: u64,
+    note: Halves,
     out: &mut [u8],
 ) -> usize
     requires { ⌜ (width ≤ longest-column) × (longest-line ≤ length (now out)) ⌝ }

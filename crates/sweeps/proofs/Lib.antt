@@ -1,4 +1,6 @@
 pub mod ByteLaws
-pub mod PlanLaws
+pub mod SameLaws
 pub mod SweepLaws
+pub mod TrackLaws
+pub mod PlanLaws
 pub mod LoopLaws

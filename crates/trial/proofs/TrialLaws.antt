@@ -2,19 +2,21 @@
 use mathlib.Core.Path.{_≡_, refl, sym, ap, _∙_, subst}
 use mathlib.Core.Bool.{Bool, true, false}
 use mathlib.Core.List.{List}
-use Prim.Native.Nat.{ℕ, zero, suc, _<_}
-use borrow.Author.Tests.{eq-eqb, lt-ltb, le-ltb}
+use Prim.Native.Nat.{ℕ, zero, suc, _*_, _<_, _≤_}
+use borrow.Author.Tests.{lt-ltb, le-ltb}
 use native.Mathlib.Omega.{arith}
-use native.Mathlib.Nat.{zero-sub}
-use lib.Bits.{bitAnd}
-use lib.Dec.{ltb}
+use lib.Dec.{ltb, eqb, lit≤}
 use lib.ListN.{length, getD}
 use lib.Seq.{take-all}
-use Rattle.bits.specs.Bytes.{little, little-bytes}
+use Rattle.bits.specs.Bytes.{little-bytes}
 use Rattle.bits.specs.Fields.{choose}
-use Rattle.bits.specs.Outcomes.{gives, passes, _then_}
-use Rattle.bits.specs.Sets.{minus}
+use Rattle.bits.specs.Halves.{halves, both, either, minus-halves}
+use Rattle.bits.specs.declared.halves.Halves.{Halves}
+use Rattle.bits.specs.Outcomes.{gives, passes, _then_, first, each}
 use Rattle.bits.proofs.ByteLaws.{length-bytes}
+use Rattle.bits.proofs.FirstLaws.{neither}
+use Rattle.bits.proofs.HalfLaws.{half-of-both, covering}
+use Rattle.bits.proofs.SetLaws.{has-none}
 use Rattle.rows.specs.Kinds.{source, about}
 use Rattle.rows.specs.Rows.{row-of, row-count}
 use Rattle.rows.specs.Layout.{where-has}
@@ -29,13 +31,17 @@ use Rattle.reading.specs.Reader.{read}
 use Rattle.writing.specs.Writer.{stored}
 use Rattle.writing.proofs.RoundTrip.{written, stored-word, read-written}
 use Rattle.codec.proofs.Defaulted.{ended-judged}
-use Rattle.container.specs.Container.{word-length, container-length, eight}
-use Rattle.packing.specs.Packing.{word-count, Fitting, container-bytes, pack-outcome, pack-buffer}
-use Rattle.packing.proofs.PackLaws.{fitting-to}
-use Rattle.infer.proofs.PackedLaws.{packed-verdict}
+use Rattle.container.specs.declared.format.Format.{Format}
+use Rattle.container.specs.Formats.{known, word-length, annotation-length, container-length}
+use Rattle.container.specs.Container.{eight}
+use Rattle.packing.specs.Packing.{word-count, Fitting, taken, container-bytes, pack-outcome, pack-buffer}
+use Rattle.packing.proofs.PackLaws.{fitting-to, by-format, packs}
 use Rattle.safety.specs.Program.{program-in, instruction-at, annotation-at, successors}
-use Rattle.safety.specs.Verdict.{first, each, judge-reading, judge-word, judge-flow, judge-program, verdict-of}
-use Rattle.safety.proofs.VerdictLaws.{neither, none-to}
+use Rattle.safety.specs.Verdict.{judge-reading, judge-word, judge-flow, judge-program, verdict-of}
+use Rattle.safety.proofs.VerdictLaws.{missing-to}
+use Rattle.sweeps.specs.Sweeps.{note-bytes}
+use Rattle.sweeps.proofs.ByteLaws.{notes-length, note-back}
+use Rattle.infer.proofs.PackedLaws.{packed-verdict}
 use Rattle.trial.specs.Trial.{FreshGiven, FreshSources, FreshReadsNone, no-registers, empty-annotation, TrialAccepted, FreshAccepted}
 
 pub fresh-given : FreshGiven
@@ -65,50 +71,58 @@ fresh-sources k i e j =
 pub fresh-reads-none : FreshReadsNone
 fresh-reads-none k i e = let m = fresh-made k i e in ap reads (sym (m .1)) ∙ default-reads k (m .0)
 
-names-none : annotation-at empty-annotation 0 ≡ 0
-unfolding annotation-at little-bytes little
-names-none = refl
+-- an empty annotation names nothing, and nothing is missing of it
+names-none : (v : ℕ) → annotation-at v (empty-annotation v) 0 ≡ no-registers
+unfolding note-bytes taken
+names-none v = note-back v (λ j. no-registers) 1 0 (omega arith) (record { low = omega arith; high = omega arith }) ∙ taken-none
+  where
+    taken-none : taken v no-registers ≡ no-registers
+    taken-none = by-format (λ (f : Format). halves 0 (choose (eqb (f .high) 0) 0 0) ≡ no-registers) refl refl v
 
--- no register is missing of an empty set
-none-lacking : {a : ℕ} (b : ℕ) → a ≡ 0 → minus a b ≡ 0
-unfolding minus
-none-lacking b e = rw e (zero-sub (bitAnd 0 b))
+none-lacking : {a : Halves} (b : Halves) → a ≡ no-registers → either (minus-halves a b) ≡ 0
+none-lacking {a} b e = covering a b (λ h r k. absurd (has-none r (rw (e, half-of-both h 0) at k)))
 
 -- one word and one annotation make a container
-fits : (word : List ℕ) → length word ≡ word-length → Fitting (length word) (length empty-annotation)
-fits word l =
+fits : (v : ℕ) (word : List ℕ) → length word ≡ word-length → Fitting v (length word) (length (empty-annotation v))
+unfolding note-bytes
+fits v word l =
+    let one : word-count (length word) ≡ 1 = omega (arith, l) in
     record {
-      some = omega (arith, l);
-      few = omega (arith, l);
+      some = omega (arith, one);
+      few = omega (arith, one, by-format (λ (f : Format). 1 ≤ f .most) (lit≤ tt) (lit≤ tt) v);
       whole = omega (arith, l);
-      noted = length-bytes 8 0 ∙ omega (arith, l);
+      noted = notes-length v (λ j. no-registers) 1 ∙ ap (λ (n : ℕ). annotation-length v * n) (sym one);
     }
 
 -- a container of one word that reads as an instruction which reads nothing and ends
-module _ (x : Instruction) (word : List ℕ) (l : length word ≡ word-length) (is : read word ≡ gives x) (none : reads x ≡ 0) (end : ends x ≡ true) where
+module _ (v : ℕ) (is-known : known v ≡ true) (x : Instruction) (word : List ℕ) (l : length word ≡ word-length)
+    (is : read word ≡ gives x) (none : reads x ≡ 0) (end : ends x ≡ true) where
   alone : read (eight word 0) ≡ gives x
   alone = ap read (take-all 8 word (omega (arith, l))) ∙ is
 
-  flows : judge-flow 1 (annotation-at empty-annotation) 0 x ≡ passes
+  flows : judge-flow v 1 (annotation-at v (empty-annotation v)) 0 x ≡ passes
   unfolding judge-flow successors each _then_
-  flows = rw (none-to 20 0 (reads x) (annotation-at empty-annotation 0) (none-lacking (annotation-at empty-annotation 0) none), end)
+  flows =
+      let note = annotation-at v (empty-annotation v) 0 in
+      rw (missing-to 20 0 (both (reads x)) note (none-lacking note (ap both none)), end)
 
-  program-passes : judge-program (program-in word empty-annotation 1 no-registers) ≡ passes
+  program-passes : judge-program (program-in v word (empty-annotation v) 1 (taken v no-registers)) ≡ passes
   unfolding judge-program first _then_ instruction-at
-  program-passes = neither (none-to 23 0 (annotation-at empty-annotation 0) no-registers (none-lacking no-registers names-none)) (rw alone flows)
+  program-passes =
+      neither (missing-to 23 0 (annotation-at v (empty-annotation v) 0) (taken v no-registers) (none-lacking (taken v no-registers) (names-none v))) (rw alone flows)
 
-  pub accepted-alone : verdict-of (container-bytes no-registers word empty-annotation) ≡ passes
+  pub accepted-alone : verdict-of (container-bytes v no-registers word (empty-annotation v)) ≡ passes
   unfolding first _then_
   accepted-alone =
-      packed-verdict no-registers word empty-annotation (omega arith) (fits word l)
-      ∙ ap (λ (n : ℕ). first (judge-word word) n then judge-program (program-in word empty-annotation n no-registers)) one
+      packed-verdict v no-registers word (empty-annotation v) is-known (fits v word l) (omega arith) (omega arith)
+      ∙ ap (λ (n : ℕ). first (judge-word word) n then judge-program (program-in v word (empty-annotation v) n (taken v no-registers))) one
       ∙ neither (ap (judge-reading 0) alone) program-passes
     where
       one : word-count (length word) ≡ 1
       one = omega (arith, l)
 
 -- the default of a row, ended: its word is accepted
-module _ (k : ℕ) (h : k < row-count) where
+module _ (v : ℕ) (is-known : known v ≡ true) (k : ℕ) (h : k < row-count) where
   abbrev x : Instruction
   x = ended (default-instruction k)
 
@@ -118,29 +132,30 @@ module _ (k : ℕ) (h : k < row-count) where
   eight-bytes : length word ≡ word-length
   eight-bytes = length-bytes 8 (word-of x)
 
-  pub ended-alone : verdict-of (container-bytes no-registers word empty-annotation) ≡ passes
+  pub ended-alone : verdict-of (container-bytes v no-registers word (empty-annotation v)) ≡ passes
   unfolding reads
-  ended-alone = accepted-alone x word eight-bytes (read-written x (ended-judged k h)) (default-reads k h) refl
+  ended-alone = accepted-alone v is-known x word eight-bytes (read-written x (ended-judged k h)) (default-reads k h) refl
 
   -- from a buffer that it is written into, packed into another
-  module _ (buffer out : List ℕ) (l : length buffer ≡ word-length) (o : length out ≡ container-length 1) where
+  module _ (buffer out : List ℕ) (l : length buffer ≡ word-length) (o : length out ≡ container-length v 1) where
     is-word : stored x buffer ≡ word
     is-word = stored-word x (ended-judged k h) buffer l
 
-    fills : pack-outcome no-registers word empty-annotation out ≡ passes
-    unfolding pack-outcome _then_
-    fills = rw (fitting-to _ _ (fits word eight-bytes), eq-eqb (length out) (container-length (word-count (length word))) (o ∙ omega (arith, eight-bytes)))
+    fills : (passes ≡ pack-outcome v no-registers word (empty-annotation v) out)
+        × (container-bytes v no-registers word (empty-annotation v) ≡ pack-buffer v no-registers word (empty-annotation v) out)
+    fills =
+        packs v no-registers word (empty-annotation v) out is-known (fitting-to v _ _ (fits v word eight-bytes))
+        (o ∙ ap (container-length v) (let one : 1 ≡ word-count (length word) = omega (arith, eight-bytes) in one))
 
-    ended-accepted : TrialAccepted x buffer out
-    unfolding pack-buffer
+    ended-accepted : TrialAccepted v x buffer out
     ended-accepted =
         record {
           written = written x (ended-judged k h) buffer l;
-          packed = rw is-word fills;
-          accepted = rw (is-word, fills) ended-alone;
+          packed = rw is-word (sym (fills .0));
+          accepted = rw (is-word, ← fills .1) ended-alone;
         }
 
 pub fresh-accepted : FreshAccepted
-fresh-accepted k i e buffer out l o =
+fresh-accepted v is-known k i e buffer out l o =
     let m = fresh-made k i e in
-    subst (λ (y : Instruction). TrialAccepted (ended y) buffer out) (m .1) (ended-accepted k (m .0) buffer out l o)
+    subst (λ (y : Instruction). TrialAccepted v (ended y) buffer out) (m .1) (ended-accepted v is-known k (m .0) buffer out l o)

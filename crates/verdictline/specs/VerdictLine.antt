@@ -1,4 +1,4 @@
--- The line of a verdict (01, The lister).
+-- The line of a verdict (01, The lister; 02, Items 5 and 7).
 use mathlib.Core.Bool.{Bool, true, _&&_}
 use mathlib.Core.List.{List, [], _∷_, _++_}
 use Prim.Native.Nat.{ℕ, _+_}
@@ -6,14 +6,27 @@ use lib.Dec.{leb}
 use Rattle.bits.specs.Fields.{choose}
 use Rattle.bits.specs.Outcomes.{gives, refuses}
 use Rattle.rows.specs.Names.{ascii}
+use Rattle.safety.specs.declared.verdict.Reported.{Reported}
+use Rattle.safety.specs.declared.verdict.Reported.the-variants.{Neither, Low, High}
 use Rattle.safety.specs.declared.verdict.Finding.{Finding}
 use Rattle.safety.specs.Verdict.{Judgement}
 use Rattle.text.specs.Text.{space, line-feed, decimal}
 
--- what the line of every refusal has: `REFUSED`, the number in two decimal digits, the index in four and the register in two
+-- the letter of a half (02, Item 7); none where there is no register
+unfoldable pub half-letter : Reported → List ℕ
+half-letter Neither = []
+half-letter Low = ascii "L"
+half-letter High = ascii "H"
+
+-- what the line of every refusal has: `REFUSED`, the number in two decimal digits, the index in four, the register in two and after it the
+-- letter of its half
 abbrev pub refusal-fields : Finding → List ℕ
 refusal-fields f =
-    ascii "REFUSED" ++ (space ∷ decimal 2 (f .number)) ++ (space ∷ decimal 4 (f .index)) ++ (space ∷ decimal 2 (f .register))
+    ascii "REFUSED"
+    ++ (space ∷ decimal 2 (f .number))
+    ++ (space ∷ decimal 4 (f .index))
+    ++ (space ∷ decimal 2 (f .register))
+    ++ half-letter (f .half)
 
 -- a refusal of a word that does not read has a fourth field (02, Item 5), the place in two decimal digits, `00` where it names none; no other
 -- refusal has it
@@ -32,4 +45,4 @@ lists (refuses f) = leb 20 (f .number)
 
 -- the most bytes that the line has
 abbrev pub longest-verdict : ℕ
-longest-verdict = 7 + 1 + 2 + 1 + 4 + 1 + 2 + 1 + 2 + 1
+longest-verdict = 7 + 1 + 2 + 1 + 4 + 1 + 2 + 1 + 1 + 2 + 1

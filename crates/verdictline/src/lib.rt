@@ -1,5 +1,6 @@
 // The line of a verdict, as the lister writes it (01, The lister), made in a buffer that the caller lends.
 use safety::verdict::Finding;
+use safety::verdict::Reported;
 use safety::verdict::Verdict;
 use text::put::put_byte;
 use text::put::put_spaced;
@@ -11,10 +12,10 @@ ghost use lib.ListN.{length};
 ghost use Rattle.bits.specs.Outcomes.{refuses};
 ghost use Rattle.safety.specs.Verdict.{verdict-outcome};
 ghost use Rattle.text.specs.Text.{line-feed, Put};
-ghost use Rattle.verdictline.specs.VerdictLine.{lists, place-field, verdict-line, longest-verdict};
+ghost use Rattle.verdictline.specs.VerdictLine.{lists, half-letter, place-field, verdict-line, longest-verdict};
 
 // The most bytes that the line of a verdict has.
-pub const LONGEST_VERDICT: usize = 7 + 1 + 2 + 1 + 4 + 1 + 2 + 1 + 2 + 1;
+pub const LONGEST_VERDICT: usize = 7 + 1 + 2 + 1 + 4 + 1 + 2 + 1 + 1 + 2 + 1;
 
 // The lowest number of a refusal that comes after all words were read.
 const WORDS_READ: u8 = 20;
@@ -57,15 +58,29 @@ fn put_end(f: Finding, out: &mut [u8]) -> usize
     at + put_byte(b'\n', &mut out[at..])
 }
 
-// Number, index, register, and what ends the line.
+// The letter of a half, if there is one.
+pub fn put_letter(half: Reported, out: &mut [u8]) -> usize
+    requires { ⌜ 1 ≤ length (now out) ⌝ }
+    ensures { λ r. ⌜ Put (half-letter half) (now (out .entry)) (now (out .exit)) r × (r ≤ 1) ⌝ }
+{
+    match half {
+        Reported::Neither => 0,
+        Reported::Low => put_byte(b'L', out),
+        Reported::High => put_byte(b'H', out),
+    }
+}
+
+// Number, index, register with its half, and what ends the line.
 fn put_finding(f: Finding, out: &mut [u8]) -> usize
     requires { ⌜ longest-verdict ≤ length (now out) ⌝ }
     ensures { λ r. ⌜ Put (verdict-line (refuses f)) (now (out .entry)) (now (out .exit)) r × (r ≤ longest-verdict) ⌝ }
 {
+    let half = f.half;
     let mut at = put_text(b"REFUSED", out);
     at += put_spaced(f.number as u64, 10, 2, &mut out[at..]);
     at += put_spaced(f.index as u64, 10, 4, &mut out[at..]);
     at += put_spaced(f.register as u64, 10, 2, &mut out[at..]);
+    at += put_letter(half, &mut out[at..]);
     at += put_end(f, &mut out[at..]);
     at
 }

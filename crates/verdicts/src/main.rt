@@ -1,9 +1,11 @@
-// Verifies each container of its standard input and writes a line for each, with the verdict: the run-only parcels of paper 01.
+// Verifies each container of its standard input and writes a line for each, with the verdict: the run-only parcels of paper 01, and
+// parcels of version 2.
 // The input is a sequence of entries: a label of 32 bytes, a length of four bytes, the lowest first, and as many bytes.
 ghost use Prim.Native.Nat.{_+_, _<_, _≤_};
 ghost use lib.ListN.{length};
 use bits::bytes::wide;
 use safety::verdict::Finding;
+use safety::verdict::Reported;
 use safety::verdict::Verdict;
 use verifier::verify;
 
@@ -18,13 +20,23 @@ fn number(n: u64) {
     io::print_decimal(libc::STDOUT_FILENO, n);
 }
 
-// Number, place, instruction, register.
+fn say_half(half: Reported) {
+    match half {
+        Reported::Neither => {}
+        Reported::Low => text(b"L"),
+        Reported::High => text(b"H"),
+    }
+}
+
+// Number, place, instruction, register with the half.
 fn say_finding(f: Finding) {
+    let half = f.half;
     text(b" REFUSED");
     number(f.number as u64);
     number(f.place as u64);
     number(f.index as u64);
     number(f.register as u64);
+    say_half(half);
 }
 
 fn say_verdict(container: &[u8]) {

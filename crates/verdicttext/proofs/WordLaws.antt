@@ -1,5 +1,5 @@
 -- A verdict in words, by its number. Assumes nothing.
-use mathlib.Core.Path.{_≡_, refl, sym, ap, _∙_}
+use mathlib.Core.Path.{_≡_, sym}
 use mathlib.Core.List.{List, [], _∷_, _++_, append-assoc}
 use Prim.Native.Nat.{ℕ}
 use borrow.Author.Tests.{eq-eqb, ne-eqb}
@@ -9,6 +9,7 @@ use Rattle.safety.specs.declared.verdict.Finding.{Finding}
 use Rattle.safety.specs.Verdict.{Judgement}
 use Rattle.text.specs.Text.{line-feed, number-text, Put}
 use Rattle.text.proofs.TextLaws.{put-nothing}
+use Rattle.verdictline.specs.VerdictLine.{half-letter}
 use Rattle.verdicttext.specs.Words.{why-text, fault-line, instruction-fault, refusal-text, verdict-text}
 
 module _ (f : Finding) where
@@ -18,7 +19,7 @@ module _ (f : Finding) where
   abbrev r : ℕ
   r = f .register
 
-  pub reads : n ≡ 20 → ascii "reads r" ++ number-text 10 2 r ++ ascii ", which its note does not name" ≡ why-text f
+  pub reads : n ≡ 20 → ascii "reads r" ++ number-text 10 2 r ++ half-letter (f .half) ++ ascii ", which its note does not name" ≡ why-text f
   unfolding why-text
   reads e = rw (eq-eqb n 20 e)
 
@@ -29,12 +30,12 @@ module _ (f : Finding) where
 
     module _ (b : n ≡ 21 → ⊥) where
       pub successor : n ≡ 22
-          → ascii "can go on to an instruction whose note names r" ++ number-text 10 2 r ++ ascii ", which by its own note it does not leave filled" ≡ why-text f
+          → ascii "can go on to an instruction whose note names r" ++ number-text 10 2 r ++ half-letter (f .half) ++ ascii ", which by its own note it does not leave filled" ≡ why-text f
       unfolding why-text
       successor e = rw (ne-eqb n 20 a, ne-eqb n 21 b, eq-eqb n 22 e)
 
       module _ (c : n ≡ 22 → ⊥) where
-        pub entry : n ≡ 23 → ascii "has a note that names r" ++ number-text 10 2 r ++ ascii ", which the parcel does not say is filled before the start" ≡ why-text f
+        pub entry : n ≡ 23 → ascii "has a note that names r" ++ number-text 10 2 r ++ half-letter (f .half) ++ ascii ", which the parcel does not say is filled before the start" ≡ why-text f
         unfolding why-text
         entry e = rw (ne-eqb n 20 a, ne-eqb n 21 b, ne-eqb n 22 c, eq-eqb n 23 e)
 
@@ -47,7 +48,7 @@ module _ (f : Finding) where
   wrong-mark e = rw (eq-eqb n 10 e)
 
   module _ (a : n ≡ 10 → ⊥) where
-    pub wrong-version : n ≡ 11 → ascii "the version of the parcel is not 1" ≡ refusal-text f
+    pub wrong-version : n ≡ 11 → ascii "the version of the parcel is neither 1 nor 2" ≡ refusal-text f
     unfolding refusal-text
     wrong-version e = rw (ne-eqb n 10 a, eq-eqb n 11 e)
 

@@ -9,16 +9,18 @@ use Rattle.rows.specs.Names.{ascii}
 use Rattle.safety.specs.declared.verdict.Finding.{Finding}
 use Rattle.safety.specs.Verdict.{Judgement}
 use Rattle.text.specs.Text.{space, line-feed, number-text}
+use Rattle.verdictline.specs.VerdictLine.{half-letter}
 
--- what is wrong with the instruction that a refusal names (01, Numbers given back: 20 to 23; the last case is 2 to 7)
+-- what is wrong with the instruction that a refusal names (01, Numbers given back: 20 to 23; the last case is 2 to 7); after a register stands
+-- the letter of its half, if one is told (02, Item 7)
 unfoldable pub why-text : Finding → List ℕ
 why-text f =
-    choose (eqb (f .number) 20) (ascii "reads r" ++ number-text 10 2 (f .register) ++ ascii ", which its note does not name")
+    choose (eqb (f .number) 20) (ascii "reads r" ++ number-text 10 2 (f .register) ++ half-letter (f .half) ++ ascii ", which its note does not name")
     (choose (eqb (f .number) 21) (ascii "can go on to a place outside the program")
     (choose (eqb (f .number) 22)
-    (ascii "can go on to an instruction whose note names r" ++ number-text 10 2 (f .register) ++ ascii ", which by its own note it does not leave filled")
+    (ascii "can go on to an instruction whose note names r" ++ number-text 10 2 (f .register) ++ half-letter (f .half) ++ ascii ", which by its own note it does not leave filled")
     (choose (eqb (f .number) 23)
-    (ascii "has a note that names r" ++ number-text 10 2 (f .register) ++ ascii ", which the parcel does not say is filled before the start")
+    (ascii "has a note that names r" ++ number-text 10 2 (f .register) ++ half-letter (f .half) ++ ascii ", which the parcel does not say is filled before the start")
     (ascii "is no legal instruction, so the program was not judged"))))
 
 -- the line below that instruction; none where the verdict is not a refusal
@@ -37,7 +39,7 @@ instruction-fault f = ascii "instruction " ++ number-text 10 4 (f .index) ++ asc
 unfoldable pub refusal-text : Finding → List ℕ
 refusal-text f =
     choose (eqb (f .number) 10) (ascii "this is no parcel, since it does not begin with VSP")
-    (choose (eqb (f .number) 11) (ascii "the version of the parcel is not 1")
+    (choose (eqb (f .number) 11) (ascii "the version of the parcel is neither 1 nor 2")
     (choose (eqb (f .number) 12) (ascii "the count of instructions or the length is wrong")
     (choose (eqb (f .number) 13) (ascii "byte 5 of the parcel is not 0")
     (instruction-fault f))))
@@ -51,7 +53,7 @@ verdict-text (refuses f) = ascii "REFUSED with " ++ number-text 10 3 (f .number)
 
 -- no such text has more bytes
 abbrev pub longest-why : ℕ
-longest-why = 96
+longest-why = 97
 
 abbrev pub longest-fault : ℕ
 longest-fault = 25 + 2 + longest-why + 1
@@ -60,4 +62,4 @@ abbrev pub longest-refusal : ℕ
 longest-refusal = 12 + 4 + 1 + longest-why
 
 abbrev pub longest-verdict : ℕ
-longest-verdict = 133
+longest-verdict = 134

@@ -3,14 +3,18 @@ use safety::verdict::Finding;
 use safety::verdict::Verdict;
 use text::put::put_byte;
 use text::put::put_enclosed;
+use text::put::put_labelled;
 use text::put::put_spaces;
 use text::put::put_text;
+use verdictline::put_letter;
 ghost use mathlib.Core.Path.{_≡_};
-ghost use Prim.Native.Nat.{_≤_};
+ghost use mathlib.Core.List.{_++_};
+ghost use Prim.Native.Nat.{_+_, _≤_};
 ghost use lib.ListN.{length};
 ghost use Rattle.bits.specs.Outcomes.{refuses};
 ghost use Rattle.safety.specs.Verdict.{verdict-outcome};
-ghost use Rattle.text.specs.Text.{Put};
+ghost use Rattle.text.specs.Text.{number-text, Put};
+ghost use Rattle.verdictline.specs.VerdictLine.{half-letter};
 ghost use Rattle.verdicttext.specs.Words.{why-text, fault-line, fault-index, instruction-fault, refusal-text, verdict-text, longest-why, longest-fault, longest-refusal, longest-verdict};
 
 // The numbers of the refusals, by reason.
@@ -31,38 +35,47 @@ const SUCCESSOR_MISSING: u8 = 22;
 const ENTRY_MISSING: u8 = 23;
 
 // The most bytes that these have.
-const WHY: usize = 96;
+const WHY: usize = 97;
 
 pub const LONGEST_FAULT: usize = 25 + 2 + WHY + 1;
 
-pub const LONGEST: usize = 133;
+pub const LONGEST: usize = 134;
+
+// The register of a refusal with its half, between two texts.
+fn put_half(before: &[u8], f: Finding, after: &[u8], out: &mut [u8]) -> usize
+    requires { ⌜ length (now before) + 3 + length (now after) ≤ length (now out) ⌝ }
+    ensures { λ r. ⌜ Put (now (before .entry) ++ number-text 10 2 (f .register) ++ half-letter (f .half) ++ now (after .entry)) (now (out .entry)) (now (out .exit)) r × (r ≤ length (now (before .entry)) + 3 + length (now (after .entry))) ⌝ }
+{
+    let half = f.half;
+    let mut at = put_labelled(before, f.register as u64, 10, 2, out);
+    at += put_letter(half, &mut out[at..]);
+    at += put_text(after, &mut out[at..]);
+    at
+}
 
 // What is wrong with the instruction that a refusal names.
 fn put_why(f: Finding, out: &mut [u8]) -> usize
     requires { ⌜ longest-why ≤ length (now out) ⌝ }
     ensures { λ r. ⌜ Put (why-text f) (now (out .entry)) (now (out .exit)) r × (r ≤ longest-why) ⌝ }
 {
-    let n = f.register as u64;
     if f.number == READ_MISSING {
-        return put_enclosed(b"reads r", n, 2, b", which its note does not name", out);
+        return put_half(b"reads r", f, b", which its note does not name", out);
     }
     if f.number == SUCCESSOR_OUTSIDE {
         return put_text(b"can go on to a place outside the program", out);
     }
     if f.number == SUCCESSOR_MISSING {
-        return put_enclosed(
+        return put_half(
             b"can go on to an instruction whose note names r",
-            n,
-            2,
+            f,
             b", which by its own note it does not leave filled",
             out,
         );
     }
     if f.number == ENTRY_MISSING {
-        return put_enclosed(
+        return put_half(
             b"has a note that names r",
-            n,
-            2,
+            f,
             b", which the parcel does not say is filled before the start",
             out,
         );
@@ -124,7 +137,7 @@ fn put_refusal(f: Finding, out: &mut [u8]) -> usize
         return put_text(b"this is no parcel, since it does not begin with VSP", out);
     }
     if f.number == WRONG_VERSION {
-        return put_text(b"the version of the parcel is not 1", out);
+        return put_text(b"the version of the parcel is neither 1 nor 2", out);
     }
     if f.number == WRONG_LENGTH {
         return put_text(b"the count of instructions or the length is wrong", out);

@@ -1,12 +1,11 @@
-// The verifier (the paper's check): whether a container's annotations prove that no walk reads a register that is not defined there.
+// The verifier (the paper's check): whether a container's annotations prove that no walk reads a half of a register that
+// is not defined there.
 use crate::program::judge_words;
 use crate::program::read_from;
 use container::header::Opening;
 use container::header::open;
-use container::layout::HEADER_LENGTH;
-use container::layout::WORD_LENGTH;
 use container::parts::annotations;
-use flow::NO_REGISTER;
+use container::parts::words;
 use safety::verdict::Verdict;
 use safety::verdict::refused;
 ghost use mathlib.Core.Path.{_≡_};
@@ -28,11 +27,10 @@ pub fn verify(bytes: &[u8]) -> Verdict
             let n = header.count;
             let entry = header.entry;
             let notes = annotations(bytes);
-            let middle = HEADER_LENGTH + WORD_LENGTH * n;
-            return judge_words(&bytes[HEADER_LENGTH..middle], notes, n, entry);
+            return judge_words(header.version, words(bytes), notes, n, entry);
         }
         Opening::Refused(number) => {
-            return refused(number, 0, 0, NO_REGISTER);
+            return refused(number, 0, 0);
         }
     }
 }
@@ -44,11 +42,10 @@ pub fn read_all(bytes: &[u8]) -> Verdict
     match open(bytes) {
         Opening::Opened(header) => {
             let n = header.count;
-            let middle = HEADER_LENGTH + WORD_LENGTH * n;
-            return read_from(&bytes[HEADER_LENGTH..middle], n, 0);
+            return read_from(words(bytes), n, 0);
         }
         Opening::Refused(reason) => {
-            return refused(reason, 0, 0, NO_REGISTER);
+            return refused(reason, 0, 0);
         }
     }
 }

@@ -1,7 +1,7 @@
 // One pass over the words of a program and its annotations.
+use bits::halves::Halves;
 use codec::read_word;
 use container::layout::WORD_LENGTH;
-use flow::NO_REGISTER;
 use flow::annotation_at;
 use flow::judge_flow;
 use reader::answer::Reading;
@@ -12,12 +12,13 @@ use safety::verdict::none_missing;
 use safety::verdict::refused;
 ghost use mathlib.Core.Path.{_≡_};
 ghost use Prim.Native.Nat.{_*_, _<_, _≤_};
-ghost use Rattle.bits.specs.Outcomes.{refuses, passes, _then_};
+ghost use Rattle.bits.specs.Halves.{both};
+ghost use Rattle.bits.specs.Outcomes.{refuses, passes, _then_, first};
 ghost use Rattle.reader.specs.Answers.{reading};
 ghost use Rattle.reading.specs.Reader.{read};
 ghost use Rattle.container.specs.Container.{eight};
-ghost use Rattle.safety.specs.Program.{program-in, annotation-at, Worded, Annotated};
-ghost use Rattle.safety.specs.Verdict.{verdict-outcome, first, judge-word, judge-index, judge-program};
+ghost use Rattle.safety.specs.Program.{program-in, Worded, Annotated};
+ghost use Rattle.safety.specs.Verdict.{verdict-outcome, judge-word, judge-index, judge-program};
 
 // The number of the refusal where the first annotation names what is not defined at entry.
 const ENTRY_MISSING: u8 = 23;
@@ -43,7 +44,7 @@ pub(crate) fn read_from(words: &[u8], n: usize, from: usize) -> Verdict
         match r {
             Reading::Read(_) => {}
             Reading::Refused(x) => {
-                return refused(x.number, x.place, i, NO_REGISTER);
+                return refused(x.number, x.place, i);
             }
         }
         i += 1;
@@ -64,16 +65,16 @@ fn unreadable_from(words: &[u8], n: usize, from: usize, f: Finding) -> Verdict
 }
 
 // The verdict on the words and, where all of them read, on the instructions one by one.
-fn judge_instructions<'a>(words: &'a [u8], annotations: &'a [u8], n: usize) -> Verdict
-    requires { ⌜ Worded (now words) n × Annotated (now annotations) n ⌝ }
-    ensures { λ r. ⌜ verdict-outcome r ≡ (first (judge-word (now (words .entry))) n then first (judge-index (program-in (now (words .entry)) (now (annotations .entry)) n 0)) n) ⌝ }
+fn judge_instructions<'a>(version: u64, words: &'a [u8], annotations: &'a [u8], n: usize) -> Verdict
+    requires { ⌜ Worded (now words) n × Annotated version (now annotations) n ⌝ }
+    ensures { λ r. ⌜ verdict-outcome r ≡ (first (judge-word (now (words .entry))) n then first (judge-index (program-in version (now (words .entry)) (now (annotations .entry)) n (both 0))) n) ⌝ }
 {
     let mut i = 0;
     while i < n {
         let r = reading_at(words, n, i);
         match r {
             Reading::Read(x) => {
-                let v = judge_flow(annotations, n, i, x);
+                let v = judge_flow(version, annotations, n, i, x);
                 match v {
                     Verdict::Accepted => {}
                     Verdict::Refused(f) => {
@@ -82,7 +83,7 @@ fn judge_instructions<'a>(words: &'a [u8], annotations: &'a [u8], n: usize) -> V
                 }
             }
             Reading::Refused(x) => {
-                return refused(x.number, x.place, i, NO_REGISTER);
+                return refused(x.number, x.place, i);
             }
         }
         i += 1;
@@ -91,13 +92,20 @@ fn judge_instructions<'a>(words: &'a [u8], annotations: &'a [u8], n: usize) -> V
 }
 
 // The verdict on n words and annotations, before which `entry` is defined. A word that does not read comes before any other refusal.
-pub fn judge_words<'a>(words: &'a [u8], annotations: &'a [u8], n: usize, entry: u64) -> Verdict
-    requires { ⌜ Worded (now words) n × Annotated (now annotations) n × (0 < n) ⌝ }
-    ensures { λ r. ⌜ verdict-outcome r ≡ (first (judge-word (now (words .entry))) n then judge-program (program-in (now (words .entry)) (now (annotations .entry)) n entry)) ⌝ }
+pub fn judge_words<'a>(
+    version: u64,
+    words: &'a [u8],
+    annotations: &'a [u8],
+    n: usize,
+    entry: Halves,
+) -> Verdict
+    requires { ⌜ Worded (now words) n × Annotated version (now annotations) n × (0 < n) ⌝ }
+    ensures { λ r. ⌜ verdict-outcome r ≡ (first (judge-word (now (words .entry))) n then judge-program (program-in version (now (words .entry)) (now (annotations .entry)) n entry)) ⌝ }
 {
-    let v = none_missing(ENTRY_MISSING, 0, annotation_at(annotations, n, 0), entry);
+    let first = annotation_at(version, annotations, n, 0);
+    let v = none_missing(ENTRY_MISSING, 0, first, entry);
     match v {
-        Verdict::Accepted => judge_instructions(words, annotations, n),
+        Verdict::Accepted => judge_instructions(version, words, annotations, n),
         Verdict::Refused(f) => unreadable_from(words, n, 0, f),
     }
 }

@@ -9,10 +9,11 @@ use lib.Seq.{take-take, drop-drop}
 use Rattle.bits.specs.Bytes.{little}
 use Rattle.bits.specs.Outcomes.{gives, refuses, _then_}
 use Rattle.container.specs.declared.header.Header.{Header}
-use Rattle.container.specs.Container.{part, number, header-length, word-length, word-start, count-of, words-of, eight}
+use Rattle.container.specs.Formats.{header-length, word-length}
+use Rattle.container.specs.Container.{part, number, version-of, word-start, count-of, words-of, eight}
 use Rattle.container.specs.Opening.{unplaced, open-outcome}
 use Rattle.view.specs.Words.{word-outcome, open-count, count-in}
-use Rattle.container.proofs.OpeningLaws.{sized}
+use Rattle.container.proofs.OpeningLaws.{sized, ends-there}
 
 -- the order of the tests
 module _ (s : List ℕ) (n i : ℕ) where
@@ -21,13 +22,13 @@ module _ (s : List ℕ) (n i : ℕ) where
   past-count h = rw (le-ltb i n h)
 
   module _ (below : i < n) where
-    pub past-bytes : length s < word-start i + word-length → refuses (unplaced 14) ≡ word-outcome s n i
+    pub past-bytes : length s < word-start (version-of s) i + word-length → refuses (unplaced 14) ≡ word-outcome s n i
     unfolding word-outcome _then_
-    past-bytes h = rw (lt-ltb i n below, lt-leb (word-start i + word-length) (length s) h)
+    past-bytes h = rw (lt-ltb i n below, lt-leb (word-start (version-of s) i + word-length) (length s) h)
 
-    pub inside : word-start i + word-length ≤ length s → gives (number s (word-start i) word-length) ≡ word-outcome s n i
+    pub inside : word-start (version-of s) i + word-length ≤ length s → gives (number s (word-start (version-of s) i) word-length) ≡ word-outcome s n i
     unfolding word-outcome _then_
-    inside h = rw (lt-ltb i n below, le-leb (word-start i + word-length) (length s) h)
+    inside h = rw (lt-ltb i n below, le-leb (word-start (version-of s) i + word-length) (length s) h)
 
 -- a part of a part is a part of the whole
 part-part : (m n k : ℕ) (l : List ℕ) → m + n ≤ k → part (take k l) m n ≡ part l m n
@@ -48,5 +49,5 @@ module _ (s : List ℕ) {h : Header} (o : open-outcome s ≡ gives h) where
   pub opened-word : (i : ℕ) → i < count-of s → word-outcome s (open-count s) i ≡ gives (little (eight (words-of s) i))
   unfolding words-of
   opened-word i l =
-      let z = sized s o in
-      rw (opened-count, eight-part s header-length (word-length * count-of s) i (omega arith)) (sym (inside s (count-of s) i l (omega arith)))
+      let e = ends-there s o in
+      rw (opened-count, eight-part s (header-length (version-of s)) (word-length * count-of s) i (omega arith)) (sym (inside s (count-of s) i l (omega arith)))

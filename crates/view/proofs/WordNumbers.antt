@@ -5,7 +5,8 @@ use Prim.Native.Nat.{ℕ, _+_}
 use lib.Dec.{leb, ltb}
 use lib.ListN.{length}
 use Rattle.bits.proofs.OutcomeLaws.{Refusals, of-gives, on}
-use Rattle.container.specs.Container.{number, word-length, word-start}
+use Rattle.container.specs.Formats.{word-length}
+use Rattle.container.specs.Container.{number, version-of, word-start}
 use Rattle.container.specs.Opening.{Rejection, unplaced}
 use Rattle.view.specs.Words.{word-outcome}
 
@@ -14,5 +15,5 @@ pub word-numbers : (s : List ℕ) (n i : ℕ) → Refusals (λ (r : Rejection). 
 unfolding word-outcome
 word-numbers s n i =
     on (λ (r : Rejection). r ≡ unplaced 14) (ltb i n) (unplaced 14) refl
-    (on (λ (r : Rejection). r ≡ unplaced 14) (leb (word-start i + word-length) (length s)) (unplaced 14) refl
-    (of-gives (λ (r : Rejection). r ≡ unplaced 14) (number s (word-start i) word-length)))
+    (on (λ (r : Rejection). r ≡ unplaced 14) (leb (word-start (version-of s) i + word-length) (length s)) (unplaced 14) refl
+    (of-gives (λ (r : Rejection). r ≡ unplaced 14) (number s (word-start (version-of s) i) word-length)))

@@ -1,8 +1,10 @@
 // The word at an index of a container, and how many there are.
 use bits::bytes::load64;
+use container::format::format_of;
 use container::header::Opening;
 use container::header::open;
-use container::layout::HEADER_LENGTH;
+use container::header::version_in;
+use container::layout::SHORTEST_HEADER;
 use container::layout::WORD_LENGTH;
 ghost use mathlib.Core.Path.{_≡_};
 ghost use Rattle.view.specs.Words.{fetched-outcome, word-outcome, open-count};
@@ -21,20 +23,24 @@ pub struct View<'a> {
     pub n: usize,
 }
 
-// The word at index i of the bytes of a container of n instructions.
+// The word at index i of the bytes of a container of n instructions. Their version says how long the header is.
 pub fn word_in(bytes: &[u8], n: usize, i: usize) -> Fetched
     ensures { λ r. ⌜ fetched-outcome r ≡ word-outcome (now (bytes .entry)) n i ⌝ }
 {
     if n <= i {
         return Fetched::Missing(NO_WORD);
     }
-    if bytes.len() < HEADER_LENGTH + WORD_LENGTH {
+    if bytes.len() < SHORTEST_HEADER + WORD_LENGTH {
         return Fetched::Missing(NO_WORD);
     }
-    if (bytes.len() - (HEADER_LENGTH + WORD_LENGTH)) / WORD_LENGTH < i {
+    let f = format_of(version_in(bytes));
+    if bytes.len() < f.header + WORD_LENGTH {
         return Fetched::Missing(NO_WORD);
     }
-    let start = HEADER_LENGTH + WORD_LENGTH * i;
+    if (bytes.len() - (f.header + WORD_LENGTH)) / WORD_LENGTH < i {
+        return Fetched::Missing(NO_WORD);
+    }
+    let start = f.header + WORD_LENGTH * i;
     let end = start + WORD_LENGTH;
     Fetched::Word(load64(&bytes[start..end]))
 }

@@ -1,11 +1,13 @@
-//! Times the library against the reference on the same inputs, in turns, and prints a table.
+//! Times the library against the reference on the same inputs, in turns, and prints a table for
+//! each version of the parcel; then the check of either version against that of the other, on the
+//! same words.
 //!
 //! The buffers hold the inputs before the clock starts; the form that a word is read into is
 //! not cleared between words, nor the notes between programs, nor the lines between comparisons,
 //! nor the text between instructions. The reference makes a new list for each comparison and a new
 //! text for each instruction. An argument names the lister, which is timed as a whole process.
 
-use inputs::{Program, Rng, Shape, encode, instruction, refused_word, with_word};
+use inputs::{Program, Rng, Set, Shape, encode, instruction, refused_word, with_word};
 use reference::{Instruction, ROW_COUNT, ROWS, Verdict};
 use std::fs::File;
 use std::hint::black_box;
@@ -34,26 +36,21 @@ enum Outcome {
 }
 
 fn main() -> ExitCode {
-    println!("{:<40}{:>12}{:>12}{:>9}", "ns an instruction (median)", "Rattle", "Rust", "ratio");
-    let mut agreed = true;
-    for (name, outcome) in [
-        ("accepted", Outcome::Accepted),
-        ("refused, 20 at the last", Outcome::LastRead),
-        ("refused, 6 at the last", Outcome::LastWord),
-    ] {
-        for count in [16, 256, 2048] {
-            agreed &= time_check(&format!("check, {name}, n = {count}"), &parcels(count, outcome));
-        }
-    }
+    heading("version 1, ns an instruction (median)", "Rattle", "Rust");
+    let mut agreed = time_checks::<u64>();
     agreed &= time_read("read, legal words", &legal_words());
     agreed &= time_read("read, refused words", &refused_words());
     agreed &= time_text("text, legal words", &legal_words());
-    for (name, program) in [("straight", Program::nops(2048)), ("branchy", branchy())] {
-        agreed &= time_infer(name, &program);
-    }
-    let (first, second) = different();
-    for (name, second) in [("equal", first.clone()), ("all differ", second)] {
-        agreed &= time_differences(name, &first, &second);
+    agreed &= time_makers::<u64>();
+    agreed &= time_comparisons::<u64>();
+    heading("version 2, ns an instruction (median)", "Rattle", "Rust");
+    agreed &= time_checks::<u128>();
+    agreed &= time_makers::<u128>();
+    agreed &= time_comparisons::<u128>();
+    agreed &= time_differences("other versions", &different::<u64>().0, &different::<u128>().1);
+    heading("the same words, ns an instruction (median)", "version 2", "version 1");
+    for count in [16, 256, LONGEST] {
+        agreed &= time_versions(count);
     }
     if !agreed {
         return ExitCode::FAILURE;
@@ -70,21 +67,25 @@ fn main() -> ExitCode {
     }
 }
 
-/// Parcels with so many instructions, together one pass.
-fn parcels(count: usize, outcome: Outcome) -> Vec<Vec<u8>> {
-    let mut rng = Rng::new(count as u64);
-    (0..PASS / count).map(|_| parcel(&mut rng, count, outcome)).collect()
+fn heading(title: &str, first: &str, second: &str) {
+    println!("{title:<44}{first:>12}{second:>12}{:>9}", "ratio");
 }
 
-fn parcel(rng: &mut Rng, count: usize, outcome: Outcome) -> Vec<u8> {
-    let mut program = Program::safe(rng, Shape { count, branches: 10, ends: 0, registers: 32 });
+/// Parcels with so many instructions, together one pass.
+fn parcels<S: Set>(count: usize, outcome: Outcome) -> Vec<Vec<u8>> {
+    let mut rng = Rng::new(count as u64);
+    (0..PASS / count).map(|_| parcel::<S>(&mut rng, count, outcome)).collect()
+}
+
+fn parcel<S: Set>(rng: &mut Rng, count: usize, outcome: Outcome) -> Vec<u8> {
+    let mut program = Program::<S>::safe(rng, Shape { count, branches: 10, ends: 0, registers: 32 });
     let last = count - 1;
     match outcome {
         Outcome::Accepted => program.parcel(&program.exact()),
         Outcome::LastRead => {
             program.instructions[last] = last_read();
             let mut notes = program.exact();
-            notes[last] &= !program.reads(last);
+            notes[last] = notes[last] & !program.reads(last);
             program.parcel(&notes)
         }
         Outcome::LastWord => {
@@ -112,18 +113,66 @@ fn refused_words() -> Vec<[u8; 8]> {
 }
 
 /// Accepted with the notes that are made for it.
-fn branchy() -> Program {
-    Program::safe(&mut Rng::new(4), Shape { count: 2048, branches: 30, ends: 0, registers: 32 })
+fn branchy<S: Set>() -> Program<S> {
+    Program::safe(&mut Rng::new(4), Shape { count: LONGEST, branches: 30, ends: 0, registers: 32 })
 }
 
 /// Two accepted parcels that differ in every instruction.
-fn different() -> (Vec<u8>, Vec<u8>) {
+fn different<S: Set>() -> (Vec<u8>, Vec<u8>) {
     let mut rng = Rng::new(5);
     let shape = Shape { count: LONGEST, branches: 10, ends: 0, registers: 32 };
-    let first = Program::safe(&mut rng, shape);
-    let second = Program::safe(&mut rng, shape);
+    let first = Program::<S>::safe(&mut rng, shape);
+    let second = Program::<S>::safe(&mut rng, shape);
     assert!(first.words().iter().zip(second.words()).all(|(word, other)| *word != other));
     (first.parcel(&first.exact()), second.parcel(&second.exact()))
+}
+
+/// The check by outcome and length; whether the two sides agree.
+fn time_checks<S: Set>() -> bool {
+    let mut agreed = true;
+    for (name, outcome) in [
+        ("accepted", Outcome::Accepted),
+        ("refused, 20 at the last", Outcome::LastRead),
+        ("refused, 6 at the last", Outcome::LastWord),
+    ] {
+        for count in [16, 256, LONGEST] {
+            agreed &= time_check(&format!("check, {name}, n = {count}"), &parcels::<S>(count, outcome));
+        }
+    }
+    agreed
+}
+
+/// The maker on two kinds of programs; whether the two sides agree.
+fn time_makers<S: Set>() -> bool {
+    time_infer("straight", &Program::<S>::nops(LONGEST)) & time_infer("branchy", &branchy::<S>())
+}
+
+/// The comparison of equal parcels and of different ones; whether the two sides agree.
+fn time_comparisons<S: Set>() -> bool {
+    let (first, second) = different::<S>();
+    time_differences("equal", &first, &first.clone()) & time_differences("all differ", &first, &second)
+}
+
+/// The check of the same words in both versions, by the library and by the reference; whether all
+/// accept them.
+fn time_versions(count: usize) -> bool {
+    let mut rng = Rng::new(count as u64);
+    let shape = Shape { count, branches: 10, ends: 0, registers: 32 };
+    let programs: Vec<Program> = (0..PASS / count).map(|_| Program::safe(&mut rng, shape)).collect();
+    let one: Vec<Vec<u8>> = programs.iter().map(|program| program.parcel(&program.exact())).collect();
+    let halves = programs.into_iter().map(|Program { entry, instructions }| {
+        let program = Program { entry: u128::from_halves([entry; 2]), instructions };
+        program.parcel(&program.exact())
+    });
+    let two: Vec<Vec<u8>> = halves.collect();
+    let accepted =
+        |bytes: &Vec<u8>| vsp::check(bytes) == vsp::Verdict::Accepted && reference::check(bytes) == Verdict::Accepted;
+    let agree = one.iter().chain(&two).all(accepted);
+    let rattle =
+        |parcels: &[Vec<u8>]| parcels.iter().for_each(|bytes| _ = black_box(vsp::raw::check(black_box(bytes))));
+    let rust = |parcels: &[Vec<u8>]| parcels.iter().for_each(|bytes| _ = black_box(reference::check(black_box(bytes))));
+    report(&format!("Rattle, check, accepted, n = {count}"), Pass::default(), agree, || rattle(&two), || rattle(&one))
+        & report(&format!("Rust, check, accepted, n = {count}"), Pass::default(), agree, || rust(&two), || rust(&one))
 }
 
 /// The whole check on both sides; whether they agree.
@@ -188,19 +237,20 @@ fn time_text(name: &str, words: &[[u8; 8]]) -> bool {
 }
 
 /// The maker of notes on both sides, all its sweeps; whether they agree on them and on the notes.
-fn time_infer(name: &str, program: &Program) -> bool {
-    let (words, entry) = (program.word_bytes(), program.entry);
-    let (mut notes, mut other) = (vec![0; words.len()], vec![0; words.len()]);
-    let sweeps = match vsp::infer(&words, entry, &mut notes) {
+fn time_infer<S: Set>(name: &str, program: &Program<S>) -> bool {
+    let (version, words, [low, high]) = (S::VERSION.into(), program.word_bytes(), program.entry.halves());
+    let mut notes = vec![0; S::BYTES * program.count()];
+    let mut other = notes.clone();
+    let sweeps = match vsp::infer(version, &words, low, high, &mut notes) {
         vsp::Inference::Proposed { sweeps } => sweeps,
         vsp::Inference::Refused { .. } => 0,
     };
-    let agree = reference::infer(&words, entry, &mut other) == Ok(sweeps.into()) && notes == other;
+    let agree = reference::infer(version, &words, [low, high], &mut other) == Ok(sweeps.into()) && notes == other;
     let rattle = || {
-        black_box(vsp::raw::infer(black_box(&words), entry, black_box(&mut notes)));
+        black_box(vsp::raw::infer(version, black_box(&words), low, high, black_box(&mut notes)));
     };
     let rust = || {
-        let _ = black_box(reference::infer(black_box(&words), entry, black_box(&mut other)));
+        let _ = black_box(reference::infer(version, black_box(&words), [low, high], black_box(&mut other)));
     };
     let pass = Pass { instructions: program.count(), repeats: MAKER_REPEATS };
     report(&format!("infer, {name}, {sweeps} sweeps, n = {}", program.count()), pass, agree, rattle, rust)
@@ -239,20 +289,20 @@ impl Default for Pass {
     }
 }
 
-/// Times both in turns and prints a line.
-fn report(name: &str, pass: Pass, agree: bool, mut rattle: impl FnMut(), mut rust: impl FnMut()) -> bool {
+/// Times two in turns and prints a line.
+fn report(name: &str, pass: Pass, agree: bool, mut first: impl FnMut(), mut second: impl FnMut()) -> bool {
     if !agree {
-        println!("{name:<40}the two sides differ");
+        println!("{name:<44}the answers differ");
         return false;
     }
-    let (mut first, mut second) = (Vec::new(), Vec::new());
+    let (mut firsts, mut seconds) = (Vec::new(), Vec::new());
     for _ in 0..pass.repeats {
-        first.push(time(&mut rattle));
-        second.push(time(&mut rust));
+        firsts.push(time(&mut first));
+        seconds.push(time(&mut second));
     }
     let nanoseconds = |times| median(times).as_nanos() as f64 / pass.instructions as f64;
-    let (rattle, rust) = (nanoseconds(first), nanoseconds(second));
-    println!("{name:<40}{rattle:>12.2}{rust:>12.2}{:>9.2}", rattle / rust);
+    let (first, second) = (nanoseconds(firsts), nanoseconds(seconds));
+    println!("{name:<44}{first:>12.2}{second:>12.2}{:>9.2}", first / second);
     true
 }
 
@@ -267,28 +317,31 @@ fn median(mut times: Vec<Duration>) -> Duration {
     times[times.len() / 2]
 }
 
-/// The lister's whole run on an accepted parcel of 2048 instructions, from its start to
-/// its exit, with its output read through a pipe; and on empty input, for comparison.
+/// The lister's whole run on an accepted parcel of 2048 instructions, in either version, from its
+/// start to its exit, with its output read through a pipe; and on empty input, for comparison.
 fn time_lister(lister: &Path) -> ExitCode {
-    let long = parcel(&mut Rng::new(3), 2048, Outcome::Accepted);
-    match (run_lister(lister, &long), run_lister(lister, &[])) {
-        (Ok((time, 2049)), Ok((empty, _))) => {
-            println!(
-                "lister, whole run, n = 2048: {:.0} us (on empty input {:.0} us)",
+    let parcels = [
+        (1, parcel::<u64>(&mut Rng::new(3), LONGEST, Outcome::Accepted)),
+        (2, parcel::<u128>(&mut Rng::new(3), LONGEST, Outcome::Accepted)),
+    ];
+    for (version, long) in parcels {
+        match (run_lister(lister, &long), run_lister(lister, &[])) {
+            (Ok((time, 2049)), Ok((empty, _))) => println!(
+                "lister, whole run, version {version}, n = 2048: {:.0} us (on empty input {:.0} us)",
                 time.as_secs_f64() * 1e6,
                 empty.as_secs_f64() * 1e6
-            );
-            ExitCode::SUCCESS
-        }
-        (Ok((_, lines)), Ok(_)) => {
-            println!("lister: {lines} lines, not 2049");
-            ExitCode::FAILURE
-        }
-        (Err(error), _) | (_, Err(error)) => {
-            println!("lister: {error}");
-            ExitCode::FAILURE
+            ),
+            (Ok((_, lines)), Ok(_)) => {
+                println!("lister, version {version}: {lines} lines, not 2049");
+                return ExitCode::FAILURE;
+            }
+            (Err(error), _) | (_, Err(error)) => {
+                println!("lister: {error}");
+                return ExitCode::FAILURE;
+            }
         }
     }
+    ExitCode::SUCCESS
 }
 
 /// The median time of a run, and how many lines it wrote.

@@ -8,11 +8,34 @@ mod mesa;
 mod parcel;
 mod program;
 mod rng;
+mod set;
 mod tiny;
 
 pub use instruction::{BRANCH, assigned, encode, instruction, misfit, on_r0, pack, refused_word, source};
 pub use mesa::mesa;
-pub use parcel::{parcel, with_word};
+pub use parcel::{parcel, parcel_2, parcel_of, with_version, with_word};
 pub use program::{Program, Shape};
 pub use rng::Rng;
-pub use tiny::{all_notes, tiny_programs, union_of_accepted};
+pub use set::Set;
+pub use tiny::{Tiny, all_notes, tiny_programs, union_of_accepted};
+
+/// Makes tests of functions that take the kind of set: in `version_1` with registers, in
+/// `version_2` with halves of registers.
+#[macro_export]
+macro_rules! both_versions {
+    ($($test:ident)*) => {
+        mod version_1 {
+            $(#[test]
+            fn $test() {
+                super::$test::<u64>();
+            })*
+        }
+
+        mod version_2 {
+            $(#[test]
+            fn $test() {
+                super::$test::<u128>();
+            })*
+        }
+    };
+}

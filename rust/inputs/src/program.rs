@@ -1,4 +1,4 @@
-use crate::{BRANCH, Rng, encode, instruction, parcel, source};
+use crate::{BRANCH, Rng, Set, encode, instruction, parcel_of, source};
 use reference::{Instruction, ROW_COUNT, ROWS};
 
 pub(crate) const END: u8 = 15;
@@ -15,50 +15,64 @@ pub struct Shape {
     pub registers: u8,
 }
 
-/// An entry set and the instructions.
+/// An entry set and the instructions, for a parcel of the version whose sets these are.
 #[derive(Clone, Debug)]
-pub struct Program {
-    pub entry: u64,
+pub struct Program<S = u64> {
+    pub entry: S,
     pub instructions: Vec<Instruction>,
 }
 
-impl Program {
+impl<S: Set> Program<S> {
     /// Legal instructions whose successors all exist; they may read unheld registers.
-    pub fn random(rng: &mut Rng, shape: Shape) -> Program {
+    pub fn random(rng: &mut Rng, shape: Shape) -> Program<S> {
         let pool = Pool { first: rng.byte(), count: shape.registers };
         let instructions = (0..shape.count).map(|index| step(rng, shape, pool, index)).collect();
-        Program { entry: rng.bits() | rng.bits(), instructions }
+        Program { entry: S::random(rng) | S::random(rng), instructions }
     }
 
     /// A program that is accepted with its exact notes.
-    pub fn safe(rng: &mut Rng, shape: Shape) -> Program {
-        let mut program = Program::random(rng, shape);
-        let notes = program.exact();
-        for (instruction, note) in program.instructions.iter_mut().zip(notes) {
+    pub fn safe(rng: &mut Rng, shape: Shape) -> Program<S> {
+        Program::random(rng, shape).made_safe(rng)
+    }
+
+    /// One that is accepted too and fills registers in two half writes only: it has no full write
+    /// and an empty entry set. In version 1 it reads no register.
+    pub fn in_halves(rng: &mut Rng, shape: Shape) -> Program<S> {
+        let mut program = Program { entry: S::NONE, ..Program::random(rng, shape) };
+        for instruction in program.instructions.iter_mut().filter(|instruction| instruction.half_mask == 3) {
+            instruction.half_mask = rng.pick(&[1, 2]);
+        }
+        program.made_safe(rng)
+    }
+
+    /// The program without reads of what isn't held.
+    fn made_safe(mut self, rng: &mut Rng) -> Program<S> {
+        let notes = self.exact();
+        for (instruction, note) in self.instructions.iter_mut().zip(notes) {
             // A source that loses a register releases no more, so the sets only grow.
-            let page = instruction.page;
+            let (held, page) = (note.whole(), instruction.page);
             for byte in &mut instruction.sources[..ROWS[instruction.row as usize].sources] {
-                if *byte < 128 && note >> (*byte % 64) & 1 == 0 {
-                    *byte = replacement(rng, note, page);
+                if *byte < 128 && held >> (*byte % 64) & 1 == 0 {
+                    *byte = replacement(rng, held, page);
                 }
             }
         }
-        program
+        self
     }
 
     /// NOPs, only the last with `end`, and an empty entry set.
-    pub fn nops(count: usize) -> Program {
+    pub fn nops(count: usize) -> Program<S> {
         let mut instructions = vec![Instruction::default(); count];
         instructions[count - 1].flow = END;
-        Program { entry: 0, instructions }
+        Program { entry: S::NONE, instructions }
     }
 
     /// NOPs, then a BRANCHZ back to the first that releases the one register of the entry set.
-    pub fn releasing_loop(count: usize, register: u8) -> Program {
+    pub fn releasing_loop(count: usize, register: u8) -> Program<S> {
         let mut instructions = vec![Instruction::default(); count];
         let sources = [64 + register, 0, 0, 0];
         instructions[count - 1] = Instruction { row: BRANCH, sources, offset: -(count as i32), ..Default::default() };
-        Program { entry: 1 << register, instructions }
+        Program { entry: S::register(register), instructions }
     }
 
     pub fn count(&self) -> usize {
@@ -74,25 +88,27 @@ impl Program {
         self.instructions.iter().flat_map(|instruction| encode(instruction).to_le_bytes()).collect()
     }
 
-    /// The registers that an instruction reads.
-    pub fn reads(&self, index: usize) -> u64 {
+    /// All of the registers that an instruction reads.
+    pub fn reads(&self, index: usize) -> S {
         self.registers(index, |byte| byte < 128)
     }
 
-    /// The registers whose last use it is.
-    pub fn releases(&self, index: usize) -> u64 {
+    /// All of the registers whose last use it is.
+    pub fn releases(&self, index: usize) -> S {
         self.registers(index, |byte| (64..128).contains(&byte))
     }
 
-    /// The register that it fully writes.
-    pub fn fills(&self, index: usize) -> u64 {
+    /// The register that it writes, as far as it does; in version 1 only a full write counts.
+    pub fn fills(&self, index: usize) -> S {
         let instruction = &self.instructions[index];
-        let full = ROWS[instruction.row as usize].destination && instruction.half_mask == 3;
-        if full { 1 << instruction.register } else { 0 }
+        match ROWS[instruction.row as usize].destination {
+            true => S::filled(instruction.register, instruction.half_mask),
+            false => S::NONE,
+        }
     }
 
     /// The fall-through and then the branch target, inside the program or not.
-    pub fn successors(&self, index: usize) -> impl Iterator<Item = i64> + use<> {
+    pub fn successors(&self, index: usize) -> impl Iterator<Item = i64> + use<S> {
         let instruction = &self.instructions[index];
         let next = index as i64 + 1;
         let target = (instruction.row == BRANCH).then_some(next + i64::from(instruction.offset));
@@ -100,15 +116,15 @@ impl Program {
         [Some(next), target].into_iter().flatten().filter(move |_| !ends)
     }
 
-    /// The registers held after an instruction, from those before it.
-    pub fn after(&self, index: usize, before: u64) -> u64 {
+    /// What is held after an instruction, from what is held before it.
+    pub fn after(&self, index: usize, before: S) -> S {
         before & !self.releases(index) | self.fills(index)
     }
 
     /// The largest notes that agree with the entry set and with each other. Where every
     /// instruction is reached they are what is held on all walks that arrive.
-    pub fn exact(&self) -> Vec<u64> {
-        let mut notes = vec![u64::MAX; self.count()];
+    pub fn exact(&self) -> Vec<S> {
+        let mut notes = vec![S::ALL; self.count()];
         notes[0] = self.entry;
         let mut changed = true;
         while changed {
@@ -117,8 +133,8 @@ impl Program {
                 let after = self.after(index, notes[index]);
                 for successor in self.successors(index) {
                     if let Some(note) = notes.get_mut(successor as usize) {
-                        changed |= *note & !after != 0;
-                        *note &= after;
+                        changed |= *note & !after != S::NONE;
+                        *note = *note & after;
                     }
                 }
             }
@@ -129,7 +145,7 @@ impl Program {
     /// The maker's sweeps, note by note: each is narrowed, all from the notes of the sweep
     /// before, to what each predecessor leaves held. The notes that come out, which are the
     /// exact ones, and the number of sweeps.
-    pub fn sweeps(&self) -> (Vec<u64>, u32) {
+    pub fn sweeps(&self) -> (Vec<S>, u32) {
         let mut predecessors = vec![Vec::new(); self.count()];
         for index in 0..self.count() {
             for successor in self.successors(index) {
@@ -138,13 +154,13 @@ impl Program {
                 }
             }
         }
-        let mut notes = vec![u64::MAX; self.count()];
+        let mut notes = vec![S::ALL; self.count()];
         notes[0] = self.entry;
         let mut sweeps = 0;
         loop {
             let left = |from: &usize| self.after(*from, notes[*from]);
-            let narrow = |(note, from): (&u64, &Vec<usize>)| from.iter().map(left).fold(*note, |set, held| set & held);
-            let next: Vec<u64> = notes.iter().zip(&predecessors).map(narrow).collect();
+            let narrow = |(note, from): (&S, &Vec<usize>)| from.iter().map(left).fold(*note, |set, held| set & held);
+            let next: Vec<S> = notes.iter().zip(&predecessors).map(narrow).collect();
             sweeps += 1;
             if next == notes {
                 return (notes, sweeps);
@@ -155,17 +171,17 @@ impl Program {
 
     /// Notes below the exact ones that are accepted as well: what each instruction
     /// reads, some more of the exact ones, and what its successors' notes then need.
-    pub fn weaker(&self, exact: &[u64], mut some: impl FnMut() -> u64) -> Vec<u64> {
-        let mut notes: Vec<u64> =
-            exact.iter().enumerate().map(|(index, set)| set & (some() | self.reads(index))).collect();
+    pub fn weaker(&self, exact: &[S], mut some: impl FnMut() -> S) -> Vec<S> {
+        let mut notes: Vec<S> =
+            exact.iter().enumerate().map(|(index, set)| *set & (some() | self.reads(index))).collect();
         let mut changed = true;
         while changed {
             changed = false;
             for index in (0..self.count()).rev() {
                 for successor in self.successors(index) {
                     let needed = notes[successor as usize] & !self.fills(index);
-                    changed |= needed & !notes[index] != 0;
-                    notes[index] |= needed;
+                    changed |= needed & !notes[index] != S::NONE;
+                    notes[index] = notes[index] | needed;
                 }
             }
         }
@@ -173,14 +189,14 @@ impl Program {
     }
 
     /// The parcel with these notes.
-    pub fn parcel(&self, notes: &[u64]) -> Vec<u8> {
-        parcel(self.entry, &self.words(), notes)
+    pub fn parcel(&self, notes: &[S]) -> Vec<u8> {
+        parcel_of(self.entry, &self.words(), notes)
     }
 
-    fn registers(&self, index: usize, counts: impl Fn(u8) -> bool) -> u64 {
+    fn registers(&self, index: usize, counts: impl Fn(u8) -> bool) -> S {
         let instruction = &self.instructions[index];
         let sources = &instruction.sources[..ROWS[instruction.row as usize].sources];
-        sources.iter().filter(|byte| counts(**byte)).fold(0, |set, byte| set | 1 << (byte % 64))
+        sources.iter().filter(|byte| counts(**byte)).fold(S::NONE, |set, byte| set | S::register(byte % 64))
     }
 }
 
@@ -241,9 +257,9 @@ fn target(rng: &mut Rng, index: usize, count: usize) -> usize {
 }
 
 /// A held register, a uniform or a constant in place of an unheld register.
-fn replacement(rng: &mut Rng, note: u64, page: u8) -> u8 {
-    if note != 0 && rng.percent(70) {
-        return rng.member(note).trailing_zeros() as u8;
+fn replacement(rng: &mut Rng, held: u64, page: u8) -> u8 {
+    if held != 0 && rng.percent(70) {
+        return rng.member(held).trailing_zeros() as u8;
     }
     loop {
         let byte = source(rng, page);

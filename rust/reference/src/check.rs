@@ -2,7 +2,9 @@
 
 use crate::codec::{flow, offset, validate};
 use crate::layout::Layout;
-use crate::{Parcel, Refusal};
+use crate::parcel::Contents;
+use crate::sets::Set;
+use crate::{Half, Parcel, Refusal, Version};
 
 /// The flow that ends the program.
 const END: u8 = 15;
@@ -15,21 +17,24 @@ pub enum Verdict {
         refusal: Refusal,
         /// The instruction at fault, 0 where the parcel doesn't open.
         index: u16,
-        /// The lowest register at fault, 64 where none is.
+        /// The lowest register of which something is at fault, 64 where none is.
         register: u8,
+        /// The half of it at fault, the low one first; none where no register is at fault. In
+        /// version 1 always the low one.
+        half: Option<Half>,
     },
 }
 
-/// What an instruction does to the registers, as sets, and where control goes after it.
-pub(crate) struct Effect {
-    pub reads: u64,
-    pub releases: u64,
-    pub fills: u64,
+/// What an instruction does to what is held, and where control goes after it.
+pub(crate) struct Effect<S> {
+    pub reads: S,
+    pub releases: S,
+    pub fills: S,
     pub ends: bool,
     pub branch: Option<i32>,
 }
 
-/// What a source does, by its byte.
+/// What a source does to registers, by its byte.
 #[derive(Clone, Copy)]
 struct Use {
     reads: u64,
@@ -37,32 +42,33 @@ struct Use {
 }
 
 static USES: [Use; 256] = uses();
-/// What a destination fills, by its byte.
-static FILLS: [u64; 256] = fills();
 
 /// Opens the parcel, reads its words and checks its notes.
 pub fn check(bytes: &[u8]) -> Verdict {
     match Parcel::open(bytes) {
-        Ok(parcel) => check_opened(&parcel),
-        Err(refusal) => refused(refusal, 0, 0),
+        Ok(parcel) => match parcel.version {
+            Version::One => check_contents::<u64>(&parcel.contents()),
+            Version::Two => check_contents::<u128>(&parcel.contents()),
+        },
+        Err(refusal) => refused(refusal, 0),
     }
 }
 
 /// The check of what a parcel holds.
 #[inline]
-pub(crate) fn check_opened(parcel: &Parcel) -> Verdict {
-    let entry = check_entry(parcel);
+pub(crate) fn check_contents<S: Set>(contents: &Contents<S>) -> Verdict {
+    let entry = check_entry(contents);
     if entry != Verdict::Accepted {
-        return unreadable_from(parcel, 0).unwrap_or(entry);
+        return unreadable_from(contents, 0).unwrap_or(entry);
     }
-    for (index, word) in parcel.words().enumerate() {
+    for (index, word) in contents.words() {
         let layout = match validate(word) {
             Ok(layout) => layout,
-            Err(refusal) => return refused(refusal, index, 0),
+            Err(refusal) => return refused(refusal, index),
         };
-        let verdict = check_instruction(parcel, index, &effect(word, layout));
+        let verdict = check_instruction(contents, index, &effect(word, layout));
         if verdict != Verdict::Accepted {
-            return unreadable_from(parcel, index + 1).unwrap_or(verdict);
+            return unreadable_from(contents, index + 1).unwrap_or(verdict);
         }
     }
     Verdict::Accepted
@@ -71,71 +77,76 @@ pub(crate) fn check_opened(parcel: &Parcel) -> Verdict {
 /// The refusal of the first unreadable word from an index on: it comes before any refusal of
 /// a note.
 #[cold]
-fn unreadable_from(parcel: &Parcel, start: usize) -> Option<Verdict> {
-    parcel
-        .words()
-        .enumerate()
-        .skip(start)
-        .find_map(|(index, word)| validate(word).err().map(|refusal| refused(refusal, index, 0)))
+fn unreadable_from<S: Set>(contents: &Contents<S>, start: usize) -> Option<Verdict> {
+    contents.words().skip(start).find_map(|(index, word)| validate(word).err().map(|refusal| refused(refusal, index)))
 }
 
-/// A refusal that blames the lowest of these registers; of no registers that is 64.
+/// A refusal that blames no register.
 #[cold]
-fn refused(refusal: Refusal, index: usize, registers: u64) -> Verdict {
-    Verdict::Refused { refusal, index: index as u16, register: registers.trailing_zeros() as u8 }
+fn refused(refusal: Refusal, index: usize) -> Verdict {
+    Verdict::Refused { refusal, index: index as u16, register: 64, half: None }
 }
 
-fn check_entry(parcel: &Parcel) -> Verdict {
-    let missing = parcel.note(0).unwrap_or(0) & !parcel.entry;
-    if missing != 0 {
-        return refused(Refusal::UnheldAtEntry, 0, missing);
+/// A refusal that blames the lowest of what is missing.
+#[cold]
+fn unheld<S: Set>(refusal: Refusal, index: usize, missing: S) -> Verdict {
+    let (register, half) = missing.lowest();
+    Verdict::Refused { refusal, index: index as u16, register, half }
+}
+
+fn check_entry<S: Set>(contents: &Contents<S>) -> Verdict {
+    let missing = contents.note(0).unwrap_or(S::NONE) & !contents.entry;
+    if missing != S::NONE {
+        return unheld(Refusal::UnheldAtEntry, 0, missing);
     }
     Verdict::Accepted
 }
 
 /// Refusal 20, then 21 and 22 for the fall-through and for the branch target.
 #[inline]
-fn check_instruction(parcel: &Parcel, index: usize, effect: &Effect) -> Verdict {
-    let before = parcel.note(index).unwrap_or(0);
+fn check_instruction<S: Set>(contents: &Contents<S>, index: usize, effect: &Effect<S>) -> Verdict {
+    let before = contents.note(index).unwrap_or(S::NONE);
     let missing = effect.reads & !before;
-    if missing != 0 {
-        return refused(Refusal::UnheldRead, index, missing);
+    if missing != S::NONE {
+        return unheld(Refusal::UnheldRead, index, missing);
     }
     if effect.ends {
         return Verdict::Accepted;
     }
     let after = before & !effect.releases | effect.fills;
     let next = index as i64 + 1;
-    let verdict = check_successor(parcel, index, next, after);
+    let verdict = check_successor(contents, index, next, after);
     match effect.branch {
-        Some(offset) if verdict == Verdict::Accepted => check_successor(parcel, index, next + i64::from(offset), after),
+        Some(offset) if verdict == Verdict::Accepted => {
+            check_successor(contents, index, next + i64::from(offset), after)
+        }
         _ => verdict,
     }
 }
 
 #[inline]
-fn check_successor(parcel: &Parcel, index: usize, successor: i64, after: u64) -> Verdict {
-    let Some(note) = usize::try_from(successor).ok().and_then(|at| parcel.note(at)) else {
-        return refused(Refusal::LeavesProgram, index, 0);
+fn check_successor<S: Set>(contents: &Contents<S>, index: usize, successor: i64, after: S) -> Verdict {
+    let Some(note) = usize::try_from(successor).ok().and_then(|at| contents.note(at)) else {
+        return refused(Refusal::LeavesProgram, index);
     };
     let missing = note & !after;
-    if missing != 0 {
-        return refused(Refusal::UnheldAfter, index, missing);
+    if missing != S::NONE {
+        return unheld(Refusal::UnheldAfter, index, missing);
     }
     Verdict::Accepted
 }
 
 /// The effect of a word that reads with this layout.
 #[inline]
-pub(crate) fn effect(word: u64, layout: &Layout) -> Effect {
+pub(crate) fn effect<S: Set>(word: u64, layout: &Layout) -> Effect<S> {
     // An absent source counts as constant 0, byte 192, which is no register.
     let sources = word as u32 & layout.sources | 0xC0C0_C0C0 & !layout.sources;
     let [a, b, c, d] = sources.to_le_bytes().map(|byte| USES[byte as usize]);
     Effect {
-        reads: a.reads | b.reads | c.reads | d.reads,
-        releases: a.releases | b.releases | c.releases | d.releases,
+        reads: S::whole(a.reads | b.reads | c.reads | d.reads),
+        releases: S::whole(a.releases | b.releases | c.releases | d.releases),
         // Without a destination these bits are 0, and half mask 0 fills nothing.
-        fills: FILLS[(word >> 40) as usize % 256],
+        fills: S::written((word >> 40) as u8),
         ends: flow(word) == END,
         branch: layout.offset.then(|| offset(word)),
     }
@@ -150,15 +161,4 @@ const fn uses() -> [Use; 256] {
         register += 1;
     }
     uses
-}
-
-const fn fills() -> [u64; 256] {
-    let mut fills = [0; 256];
-    let mut register = 0;
-    while register < 64 {
-        // Half mask 3 above the register.
-        fills[3 << 6 | register] = 1 << register;
-        register += 1;
-    }
-    fills
 }

@@ -1,6 +1,6 @@
 //! The comparison of two parcels.
 
-use crate::{Instruction, MODIFIER_BITS, Parcel, Refusal, read};
+use crate::{Half, Instruction, MODIFIER_BITS, Parcel, Refusal, Version, read};
 
 /// The raw bits of a branch offset.
 const OFFSET_MASK: u64 = 0x7FF_FFFF;
@@ -8,6 +8,8 @@ const OFFSET_MASK: u64 = 0x7FF_FFFF;
 /// What a line tells of.
 #[derive(Clone, Copy, Debug, PartialEq, Eq)]
 pub enum What {
+    /// The versions of the parcels, which come first.
+    Version,
     Row,
     Page,
     Flow,
@@ -21,15 +23,17 @@ pub enum What {
     Added,
     /// An instruction that only the first parcel has.
     Removed,
-    Entry,
-    Note,
+    /// The entry sets: of registers where both parcels are of version 1, else of these halves.
+    Entry(Option<Half>),
+    /// The notes of an instruction, likewise.
+    Note(Option<Half>),
 }
 
 /// A line: what differs, at which instruction, and what each parcel has there.
 #[derive(Clone, Copy, Debug, PartialEq, Eq)]
 pub struct Difference {
     pub what: What,
-    /// 0 for the entry set.
+    /// 0 for versions and entry sets.
     pub index: u16,
     pub first: u64,
     pub second: u64,
@@ -62,6 +66,7 @@ pub fn differences(first: &[u8], second: &[u8]) -> Result<Vec<Difference>, Unrea
     let first = Program::read(first, Side::First)?;
     let second = Program::read(second, Side::Second)?;
     let mut lines = Vec::new();
+    versions(&first.parcel, &second.parcel, &mut lines);
     for (index, (a, b)) in first.instructions.iter().zip(&second.instructions).enumerate() {
         if a != b {
             fields(index, a, b, &mut lines);
@@ -75,14 +80,7 @@ pub fn differences(first: &[u8], second: &[u8]) -> Result<Vec<Difference>, Unrea
     for (index, word) in second.parcel.words().enumerate().skip(shared) {
         lines.push(line(What::Added, index, 0, word));
     }
-    if first.parcel.entry != second.parcel.entry {
-        lines.push(line(What::Entry, 0, first.parcel.entry, second.parcel.entry));
-    }
-    for (index, (a, b)) in first.notes().zip(second.notes()).enumerate() {
-        if a != b {
-            lines.push(line(What::Note, index, a, b));
-        }
-    }
+    sets(&first.parcel, &second.parcel, &mut lines);
     Ok(lines)
 }
 
@@ -97,14 +95,35 @@ impl<'a> Program<'a> {
         }
         Ok(Program { parcel, instructions })
     }
-
-    fn notes(&self) -> impl Iterator<Item = u64> + 'a {
-        self.parcel.notes().as_chunks().0.iter().map(|note| u64::from_le_bytes(*note))
-    }
 }
 
 fn line(what: What, index: usize, first: u64, second: u64) -> Difference {
     Difference { what, index: index as u16, first, second }
+}
+
+fn versions(first: &Parcel, second: &Parcel, lines: &mut Vec<Difference>) {
+    if first.version != second.version {
+        lines.push(line(What::Version, 0, first.version.number(), second.version.number()));
+    }
+}
+
+/// The entry sets, then the notes that both have: a line for registers, or one for each half.
+fn sets(first: &Parcel, second: &Parcel, lines: &mut Vec<Difference>) {
+    let halves: &[(Option<Half>, usize)] = match (first.version, second.version) {
+        (Version::One, Version::One) => &[(None, 0)],
+        _ => &[(Some(Half::Low), 0), (Some(Half::High), 1)],
+    };
+    let mut compare = |what: fn(Option<Half>) -> What, index, a: [u64; 2], b: [u64; 2]| {
+        for &(half, at) in halves {
+            if a[at] != b[at] {
+                lines.push(line(what(half), index, a[at], b[at]));
+            }
+        }
+    };
+    compare(What::Entry, 0, first.entry, second.entry);
+    for (index, (a, b)) in first.note_halves().zip(second.note_halves()).enumerate() {
+        compare(What::Note, index, a, b);
+    }
 }
 
 /// The fields in which two instructions differ.

@@ -1,7 +1,8 @@
 //! Paper 01 in plain Rust: the word reader and writer, the parcel, the check; and of paper 02
 //! the maker of notes, special constants as pairs, the rows of an opcode, the comparison of two
-//! parcels, the stray bit and the safer fresh record; and the text of an instruction, with paper
-//! 002's names in the syntax of Mesa's disassembler.
+//! parcels, the stray bit, the safer fresh record, and the halves of registers with version 2 of
+//! the parcel; and the text of an instruction, with paper 002's names in the syntax of Mesa's
+//! disassembler.
 //!
 //! Written from the papers alone, with tables of its own, so that it can stand beside the
 //! verified library in differential tests and as a baseline for its speed. Nothing here
@@ -18,14 +19,18 @@ mod layout;
 mod parcel;
 mod refusal;
 mod rows;
+mod sets;
 mod text;
+mod version;
 
 pub use check::{Verdict, check};
 pub use codec::{Instruction, fresh, read, write};
 pub use differences::{Difference, Side, Unread, What, differences};
 pub use enumerations::Enumeration;
 pub use infer::{Fault, Narrowed, infer, narrow};
-pub use parcel::{HEADER, MAX_COUNT, Parcel};
+pub use parcel::Parcel;
 pub use refusal::Refusal;
 pub use rows::{MODIFIER_BITS, MODIFIERS, Modifier, ROW_COUNT, ROWS, Role, Row, Secondary, row_of};
+pub use sets::Half;
 pub use text::text;
+pub use version::{Format, Version};

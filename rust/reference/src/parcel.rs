@@ -1,52 +1,55 @@
 //! The parcel: header, words, notes.
 
-use crate::Refusal;
-
-/// The length of the header.
-pub const HEADER: usize = 16;
-/// The largest count of instructions.
-pub const MAX_COUNT: usize = 2048;
+use crate::sets::Set;
+use crate::{Refusal, Version};
 
 const MARK: &[u8] = b"VSP";
-const VERSION: u16 = 1;
+/// Mark, version, zero byte and count, and 8 bytes of the entry set: what every version has.
+const START: usize = 16;
+/// Where the entry set stands.
+const ENTRY: usize = 8;
 
 /// An opened parcel, as parts of the caller's bytes.
 #[derive(Clone, Copy, Debug)]
 pub struct Parcel<'a> {
-    /// The registers held before instruction 0.
-    pub entry: u64,
+    pub version: Version,
+    /// What is held before instruction 0: low halves and high halves of registers. In version 1
+    /// the one set stands for both.
+    pub entry: [u64; 2],
     words: &'a [[u8; 8]],
-    notes: &'a [[u8; 8]],
+    notes: &'a [u8],
+}
+
+/// What the check looks at, with sets of one version.
+pub(crate) struct Contents<'a, S: Set> {
+    pub entry: S,
+    pub words: &'a [[u8; 8]],
+    pub notes: &'a [S::Bytes],
 }
 
 impl<'a> Parcel<'a> {
     /// Opens a parcel. Looks at no word and no note.
     pub fn open(bytes: &'a [u8]) -> Result<Self, Refusal> {
-        let (header, rest) = bytes.split_first_chunk::<HEADER>().ok_or(Refusal::Size)?;
-        if !header.starts_with(MARK) {
+        let start = bytes.first_chunk::<START>().ok_or(Refusal::Size)?;
+        if !start.starts_with(MARK) {
             return Err(Refusal::Mark);
         }
-        if u16::from_le_bytes([header[3], header[4]]) != VERSION {
-            return Err(Refusal::Version);
-        }
-        if header[5] != 0 {
+        let number = u16::from_le_bytes([start[3], start[4]]);
+        let version = Version::numbered(number.into()).ok_or(Refusal::Version)?;
+        if start[5] != 0 {
             return Err(Refusal::ReservedByte);
         }
-        let count = usize::from(u16::from_le_bytes([header[6], header[7]]));
-        if count == 0 || count > MAX_COUNT || rest.len() != 16 * count {
+        let format = version.format();
+        let count = usize::from(u16::from_le_bytes([start[6], start[7]]));
+        if !format.allows(count) || bytes.len() != format.length(count) {
             return Err(Refusal::Size);
         }
-        let [.., e0, e1, e2, e3, e4, e5, e6, e7] = *header;
-        let (words, notes) = rest.as_chunks().0.split_at(count);
-        Ok(Parcel { entry: u64::from_le_bytes([e0, e1, e2, e3, e4, e5, e6, e7]), words, notes })
+        let (header, rest) = bytes.split_at(format.header);
+        let (words, notes) = rest.split_at(8 * count);
+        Ok(Parcel { version, entry: halves(&header[ENTRY..]), words: words.as_chunks().0, notes })
     }
 
-    /// What a parcel with this entry set, these words and as many notes opens as.
-    pub(crate) fn from_parts(entry: u64, words: &'a [[u8; 8]], notes: &'a [[u8; 8]]) -> Self {
-        Parcel { entry, words, notes }
-    }
-
-    /// How many instructions there are, 1 to 2048.
+    /// How many instructions there are.
     #[inline]
     pub fn count(&self) -> usize {
         self.words.len()
@@ -63,14 +66,41 @@ impl<'a> Parcel<'a> {
         self.words.get(index).ok_or(Refusal::Index)
     }
 
-    /// The note at an index: the registers that count as held before its instruction.
-    #[inline]
-    pub fn note(&self, index: usize) -> Option<u64> {
-        self.notes.get(index).map(|set| u64::from_le_bytes(*set))
+    /// The notes in order, as low halves and high halves: what counts as held before each
+    /// instruction. In version 1 the one set stands for both.
+    pub fn note_halves(&self) -> impl Iterator<Item = [u64; 2]> + 'a {
+        self.notes.chunks_exact(self.version.format().note).map(halves)
     }
 
     /// The caller's bytes where the notes stand.
     pub fn notes(&self) -> &'a [u8] {
-        self.notes.as_flattened()
+        self.notes
     }
+
+    /// The contents, for sets of the parcel's version.
+    #[inline]
+    pub(crate) fn contents<S: Set>(&self) -> Contents<'a, S> {
+        Contents { entry: S::from_halves(self.entry), words: self.words, notes: S::split(self.notes) }
+    }
+}
+
+impl<S: Set> Contents<'_, S> {
+    /// The words in order, with their indexes.
+    #[inline]
+    pub fn words(&self) -> impl Iterator<Item = (usize, u64)> {
+        self.words.iter().map(|word| u64::from_le_bytes(*word)).enumerate()
+    }
+
+    /// The note at an index, if there is one.
+    #[inline]
+    pub fn note(&self, index: usize) -> Option<S> {
+        self.notes.get(index).map(S::load)
+    }
+}
+
+/// The low and the high halves that a set's bytes name; in version 1 the one set is both.
+#[inline]
+fn halves(bytes: &[u8]) -> [u64; 2] {
+    let sets = bytes.as_chunks().0;
+    [sets[0], sets[sets.len() - 1]].map(u64::from_le_bytes)
 }

@@ -20,23 +20,27 @@ pub enum Refusal {
     /// A value that the row has no room for, or one other than 0 where the row has nothing.
     FieldRange,
     Mark,
+    /// Neither 1 nor 2; the maker: the version that it is told.
     Version,
-    /// Fewer than 16 bytes, or a wrong count or length; the maker: words or notes of a wrong
-    /// length.
+    /// Fewer than 16 bytes, or a count or length that is wrong for the version; the maker: words
+    /// or notes of a wrong length.
     Size,
     /// Byte 5 of the header isn't 0.
     ReservedByte,
     /// An index that isn't below the count.
     Index,
-    /// An instruction reads a register that its note doesn't name.
+    /// An instruction reads a register that its note doesn't name; in version 2, of which it
+    /// doesn't name both halves.
     UnheldRead,
     /// A successor outside the program.
     LeavesProgram,
-    /// An instruction can go on to one whose note names a register that isn't held by then.
+    /// An instruction can go on to one whose note names a register, in version 2 a half of one,
+    /// that isn't held by then.
     UnheldAfter,
-    /// The first note names a register that the entry set doesn't have.
+    /// The first note names a register, in version 2 a half of one, that the entry set doesn't
+    /// have.
     UnheldAtEntry,
-    /// The check accepts no notes with these words and this entry set.
+    /// The check accepts no notes with these words and this entry set in this version.
     NoNotes,
 }
 

@@ -1,8 +1,9 @@
 //! The paper's checked examples, and the reference's tables as wholes.
 
+use reference::Half::{High, Low};
 use reference::{
-    Difference, Fault, Instruction, MODIFIER_BITS, Parcel, ROW_COUNT, ROWS, Refusal, Side, Unread, Verdict, What,
-    check, differences, fresh, infer, read, write,
+    Difference, Fault, Half, Instruction, MODIFIER_BITS, Parcel, ROW_COUNT, ROWS, Refusal, Side, Unread, Verdict,
+    Version, What, check, differences, fresh, infer, read, write,
 };
 
 fn read_word(word: u64) -> Result<Instruction, Refusal> {
@@ -27,8 +28,25 @@ fn parcel(entry: u64, words: &[u64], notes: &[u64]) -> Vec<u8> {
     bytes
 }
 
+/// A parcel of version 2, its sets as low halves and high halves.
+fn parcel_2(entry: [u64; 2], words: &[u64], notes: &[[u64; 2]]) -> Vec<u8> {
+    let mut bytes = b"VSP\x02\0\0".to_vec();
+    bytes.extend((words.len() as u16).to_le_bytes());
+    for number in entry.iter().chain(words).chain(notes.as_flattened()) {
+        bytes.extend(number.to_le_bytes());
+    }
+    bytes
+}
+
+/// A refusal from version 1, where a register at fault is always told as its low half.
 fn refused(refusal: Refusal, index: u16, register: u8) -> Verdict {
-    Verdict::Refused { refusal, index, register }
+    let half = (register < 64).then_some(Low);
+    Verdict::Refused { refusal, index, register, half }
+}
+
+/// A refusal from version 2 that blames a half of a register.
+fn refused_half(refusal: Refusal, index: u16, register: u8, half: Half) -> Verdict {
+    Verdict::Refused { refusal, index, register, half: Some(half) }
 }
 
 fn line(what: What, index: u16, first: u64, second: u64) -> Difference {
@@ -50,6 +68,17 @@ const A: u64 = 0x0091_C100_0000_0002;
 const B: u64 = 0x7800_0000_0000_0000;
 const C: u64 = 0x0091_C300_000C_0044;
 const BRANCH: u64 = 0x001F_0000_0000_00C0;
+/// MOV.i32 of constant 0 to the low half of r1, and to its high half.
+const LOW_R1: u64 = 0x0091_4100_0000_00C0;
+const HIGH_R1: u64 = 0x0091_8100_0000_00C0;
+/// MOV.i32 r2, r1, with `end`.
+const USE_R1: u64 = 0x7891_C200_0000_0001;
+
+const R1: u64 = 1 << 1;
+const R2: u64 = 1 << 2;
+const R3: u64 = 1 << 3;
+const R4: u64 = 1 << 4;
+const ALL: u64 = u64::MAX;
 
 fn branch(offset: i32) -> u64 {
     BRANCH | (offset as u64 & 0x7FF_FFFF) << 8
@@ -250,8 +279,11 @@ fn parcels_that_do_not_open() {
     let examples = [
         (damaged(0, b'v'), Refusal::Mark),
         (damaged(2, 0), Refusal::Mark),
-        (damaged(3, 2), Refusal::Version),
+        (damaged(3, 0), Refusal::Version),
+        (damaged(3, 3), Refusal::Version),
         (damaged(4, 1), Refusal::Version),
+        // Version 2 has another length.
+        (damaged(3, 2), Refusal::Size),
         (damaged(5, 1), Refusal::ReservedByte),
         (damaged(6, 0), Refusal::Size),
         (damaged(6, 2), Refusal::Size),
@@ -275,24 +307,80 @@ fn parcels_that_do_not_open() {
 fn opened_parcels() {
     let bytes = parcel(4, &[A, B], &[4, 0]);
     let opened = Parcel::open(&bytes).unwrap();
-    assert_eq!((opened.entry, opened.count()), (4, 2));
+    assert_eq!((opened.version, opened.entry, opened.count()), (Version::One, [4, 4], 2));
     assert_eq!(opened.word(1), Ok(&B.to_le_bytes()));
     for index in [2, 3, 2048, usize::MAX] {
         assert_eq!(opened.word(index), Err(Refusal::Index));
     }
     assert_eq!(opened.notes().as_ptr_range(), bytes[32..].as_ptr_range());
+    assert_eq!(opened.note_halves().collect::<Vec<_>>(), [[4, 4], [0, 0]]);
+}
+
+/// Header 24, words of 8 and notes of 16 bytes.
+#[test]
+fn parcels_of_version_2_that_do_not_open() {
+    let good = parcel_2([4, 4], &[A | B], &[[4, 4]]);
+    assert_eq!((good.len(), check(&good)), (48, Verdict::Accepted));
+    let damaged = |at: usize, byte: u8| {
+        let mut bytes = good.clone();
+        bytes[at] = byte;
+        bytes
+    };
+    let short = damaged(5, 1);
+    let examples = [
+        (damaged(0, b'v'), Refusal::Mark),
+        (damaged(3, 3), Refusal::Version),
+        (damaged(3, 0), Refusal::Version),
+        (damaged(4, 1), Refusal::Version),
+        (damaged(5, 1), Refusal::ReservedByte),
+        (damaged(6, 0), Refusal::Size),
+        (damaged(6, 2), Refusal::Size),
+        (damaged(7, 1), Refusal::Size),
+        // Version 1 has another length.
+        (damaged(3, 1), Refusal::Size),
+        (parcel_2([0, 0], &[], &[]), Refusal::Size),
+        (parcel_2([0, 0], &[B; 2049], &[[0, 0]; 2049]), Refusal::Size),
+        // One instruction takes 32 bytes in version 1.
+        (good[..32].to_vec(), Refusal::Size),
+        (good[..47].to_vec(), Refusal::Size),
+        ([&good[..], &[0]].concat(), Refusal::Size),
+        (good[..15].to_vec(), Refusal::Size),
+        // Cut off within the header, 13 comes before 12.
+        (short[..16].to_vec(), Refusal::ReservedByte),
+        (short[..23].to_vec(), Refusal::ReservedByte),
+        (short[..15].to_vec(), Refusal::Size),
+    ];
+    for (bytes, refusal) in examples {
+        assert_eq!(check(&bytes), refused(refusal, 0, 64), "{bytes:02X?}");
+        assert_eq!(Parcel::open(&bytes).err(), Some(refusal), "{bytes:02X?}");
+    }
+    for length in 16..24 {
+        assert_eq!(check(&good[..length]), refused(Refusal::Size, 0, 64), "{length}");
+    }
+    let longest = parcel_2([0, 0], &[B; 2048], &[[0, 0]; 2048]);
+    assert_eq!((longest.len(), check(&longest)), (49_176, Verdict::Accepted));
+}
+
+#[test]
+fn opened_parcels_of_version_2() {
+    let bytes = parcel_2([4, 5], &[A, B], &[[4, 6], [0, 1]]);
+    let opened = Parcel::open(&bytes).unwrap();
+    assert_eq!((opened.version, opened.entry, opened.count()), (Version::Two, [4, 5], 2));
+    assert_eq!(opened.word(0), Ok(&A.to_le_bytes()));
+    assert_eq!(opened.word(1), Ok(&B.to_le_bytes()));
+    for index in [2, 3, 2048, usize::MAX] {
+        assert_eq!(opened.word(index), Err(Refusal::Index));
+    }
+    assert_eq!(opened.notes().as_ptr_range(), bytes[40..].as_ptr_range());
+    assert_eq!(opened.note_halves().collect::<Vec<_>>(), [[4, 6], [0, 1]]);
 }
 
 #[test]
 fn verdicts() {
-    const R1: u64 = 1 << 1;
-    const R2: u64 = 1 << 2;
-    const R3: u64 = 1 << 3;
-    const R4: u64 = 1 << 4;
     let half = A & !(1 << 46);
     let bad = 0x00F0_C006_0002_0100;
     let no_successor = BRANCH & !0xFF | B | 0x44;
-    let examples: [(u64, &[u64], &[u64], Verdict); 20] = [
+    let examples: [(u64, &[u64], &[u64], Verdict); 22] = [
         (R2, &[A | B], &[R2], Verdict::Accepted),
         (R2, &[A | B], &[0], refused(Refusal::UnheldRead, 0, 2)),
         (R2, &[A], &[R2], refused(Refusal::LeavesProgram, 0, 64)),
@@ -311,6 +399,9 @@ fn verdicts() {
         // A full write fills, a half write doesn't.
         (R2, &[A, B], &[R2, R1 | R2], Verdict::Accepted),
         (R2, &[half, B], &[R2, R1 | R2], refused(Refusal::UnheldAfter, 0, 1)),
+        // Nor do two, one of each half.
+        (0, &[LOW_R1, HIGH_R1, USE_R1], &[0, 0, R1], refused(Refusal::UnheldAfter, 1, 1)),
+        (0, &[LOW_R1, HIGH_R1, USE_R1], &[0, 0, 0], refused(Refusal::UnheldRead, 2, 1)),
         // Released and filled by the same instruction: held after it.
         (R1, &[A & !0xFF | 0x41, B], &[R1, R1], Verdict::Accepted),
         // A branch that ends has no successor, but reads its source.
@@ -327,23 +418,83 @@ fn verdicts() {
     }
 }
 
+/// Version 2: what is held are halves.
+#[test]
+fn verdicts_on_halves() {
+    // MOV.i32 r3, r1 released; MOV.i32 of r1, released, to its own low half.
+    let release = 0x0091_C300_0000_0041;
+    let narrow = 0x0091_4100_0000_0041;
+    // FADD.v2f16 r0, r1, r2, with `end`; both swizzles are h00, of the low halves alone.
+    let add = 0x78A5_C000_0000_0201;
+    let read = |index, register, half| refused_half(Refusal::UnheldRead, index, register, half);
+    let after = |index, register, half| refused_half(Refusal::UnheldAfter, index, register, half);
+    let entry = |register, half| refused_half(Refusal::UnheldAtEntry, 0, register, half);
+    type Sets = [u64; 2];
+    let examples: [(Sets, &[u64], &[Sets], Verdict); 36] = [
+        // Two half writes fill a register, in either order.
+        ([0, 0], &[LOW_R1, HIGH_R1, USE_R1], &[[0, 0], [R1, 0], [R1, R1]], Verdict::Accepted),
+        ([0, 0], &[HIGH_R1, LOW_R1, USE_R1], &[[0, 0], [0, R1], [R1, R1]], Verdict::Accepted),
+        ([0, 0], &[LOW_R1, LOW_R1, USE_R1], &[[0, 0], [R1, 0], [R1, R1]], after(1, 1, High)),
+        ([0, 0], &[HIGH_R1, HIGH_R1, USE_R1], &[[0, 0], [0, R1], [R1, R1]], after(1, 1, Low)),
+        // So does one, of which the other half is held.
+        ([0, R1], &[LOW_R1, USE_R1], &[[0, R1], [R1, R1]], Verdict::Accepted),
+        ([R1, 0], &[LOW_R1, USE_R1], &[[R1, 0], [R1, R1]], after(0, 1, High)),
+        // A full write fills both halves; a half write takes nothing away.
+        ([R2, R2], &[A, USE_R1], &[[R2, R2], [R1, R1]], Verdict::Accepted),
+        ([R1, R1], &[LOW_R1, USE_R1], &[[R1, R1], [R1, R1]], Verdict::Accepted),
+        // A read needs both halves: low is told before high, high where only high is missing.
+        ([0, 0], &[LOW_R1, USE_R1], &[[0, 0], [R1, 0]], read(1, 1, High)),
+        ([0, 0], &[HIGH_R1, USE_R1], &[[0, 0], [0, R1]], read(1, 1, Low)),
+        ([0, 0], &[LOW_R1, USE_R1], &[[0, 0], [0, 0]], read(1, 1, Low)),
+        ([R1, R1], &[USE_R1], &[[R1, R1]], Verdict::Accepted),
+        // Whatever its swizzle.
+        ([R1 | R2, R1 | R2], &[add], &[[R1 | R2, R1 | R2]], Verdict::Accepted),
+        ([R1 | R2, R1 | R2], &[add], &[[R1 | R2, R1]], read(0, 2, High)),
+        ([R1 | R2, R1 | R2], &[add], &[[R1 | R2, 0]], read(0, 1, High)),
+        // The lowest register of which any half is missing, and then its half.
+        ([R1 | R2, R1 | R2], &[add], &[[R1, R2]], read(0, 1, High)),
+        ([R1 | R2, R1 | R2], &[add], &[[R2, R1]], read(0, 1, Low)),
+        ([R1 | R2, R1 | R2], &[add], &[[R1, R1]], read(0, 2, Low)),
+        ([0, 0], &[B], &[[R2, R1]], entry(1, High)),
+        ([0, 0], &[B], &[[R1 | R2, R1]], entry(1, Low)),
+        ([0, R1], &[B], &[[R1, R1 | R2]], entry(1, Low)),
+        ([R1, R2], &[B], &[[R1, R1]], entry(1, High)),
+        ([1 << 63, 0], &[B], &[[1 << 63, 1 << 63]], entry(63, High)),
+        ([R1, R2], &[B], &[[R1, R2]], Verdict::Accepted),
+        // A release drops both halves, whatever the note after it names.
+        ([R1, R1], &[release, B], &[[R1, R1], [R3, R3]], Verdict::Accepted),
+        ([R1, R1], &[release, B], &[[R1, R1], [R1, 0]], after(0, 1, Low)),
+        ([R1, R1], &[release, B], &[[R1, R1], [0, R1]], after(0, 1, High)),
+        ([R1, R1], &[release, B], &[[R1, 0], [0, 0]], read(0, 1, High)),
+        // The write comes after the release.
+        ([R1, R1], &[narrow, B], &[[R1, R1], [R1, 0]], Verdict::Accepted),
+        ([R1, R1], &[narrow, B], &[[R1, R1], [R1, R1]], after(0, 1, High)),
+        // The fall-through before the target, each with its half.
+        ([0, R3], &[branch(-1), B], &[[0, R3], [0, R3]], Verdict::Accepted),
+        ([0, R3], &[branch(-1), B], &[[0, R3], [R3, R3]], after(0, 3, Low)),
+        ([0, R3], &[B, branch(-2), B], &[[0, R3], [0, 0], [0, 0]], after(1, 3, High)),
+        // Neither half where no register is at fault; an unreadable word comes before 23.
+        ([R2, R2], &[A], &[[R2, R2]], refused(Refusal::LeavesProgram, 0, 64)),
+        ([0, 0], &[branch(-2), B], &[[0, 0], [0, 0]], refused(Refusal::LeavesProgram, 0, 64)),
+        ([0, 0], &[A, 1 << 63], &[[R1, 0], [0, 0]], refused(Refusal::UnassignedBit(63), 1, 64)),
+    ];
+    for (entry, words, notes, verdict) in examples {
+        assert_eq!(check(&parcel_2(entry, words, notes)), verdict, "{entry:X?} {words:016X?} {notes:X?}");
+    }
+}
+
 /// Worked out by hand, sweep by sweep.
 #[test]
 fn proposals() {
-    const R1: u64 = 1 << 1;
-    const R2: u64 = 1 << 2;
-    const R3: u64 = 1 << 3;
-    const R4: u64 = 1 << 4;
-    const ALL: u64 = u64::MAX;
     // MOV r1, constant 0, full and low half; BRANCHZ on r1, released; NOP.
     let fill = A & !0xFF | 0xC0;
     let half = fill & !(2 << 46);
     let release = |offset| branch(offset) & !0xFF | 0x41;
     let nop = B & !(15 << 59);
-    let none = Fault { refusal: Refusal::NoNotes, index: 0, register: 64 };
     // Notes and sweeps.
-    type Answer<'a> = Result<(&'a [u64], u32), Fault>;
-    let examples: [(u64, &[u64], Answer); 14] = [
+    type Answer<'a> = Result<(&'a [u64], u32), Refusal>;
+    let none = Refusal::NoNotes;
+    let examples: [(u64, &[u64], Answer); 16] = [
         (R2 | R3, &[A | B], Ok((&[R2 | R3], 1))),
         (R3, &[A | B], Err(none)),
         (R2, &[A], Err(none)),
@@ -352,6 +503,9 @@ fn proposals() {
         (R4, &[C, branch(-2), B], Err(none)),
         (R4, &[C, branch(-1), B], Ok((&[R4, R3, R3], 3))),
         (R2, &[half, B], Ok((&[R2, R2], 2))),
+        // Two half writes never fill a register.
+        (0, &[LOW_R1, HIGH_R1, B], Ok((&[0, 0, 0], 3))),
+        (0, &[LOW_R1, HIGH_R1, USE_R1], Err(none)),
         // Note 0 is narrowed too: the loop comes back without r1.
         (R1 | R2, &[fill, release(-2), B], Ok((&[R2, R1 | R2, R2], 3))),
         // Nothing arrives at the last one.
@@ -365,14 +519,98 @@ fn proposals() {
         (0, &[B, release(0), release(0), B], Err(none)),
     ];
     for (entry, words, expected) in examples {
-        let bytes: Vec<u8> = words.iter().flat_map(|word| word.to_le_bytes()).collect();
-        let mut notes = vec![0xA5; bytes.len()];
-        let answer = infer(&bytes, entry, &mut notes);
-        assert_eq!(answer, expected.map(|(_, sweeps)| sweeps), "{words:016X?}");
-        let expected = expected
-            .map_or(vec![0xA5; bytes.len()], |(notes, _)| notes.iter().flat_map(|note| note.to_le_bytes()).collect());
-        assert_eq!(notes, expected, "{words:016X?}");
+        // The set of high halves plays no part.
+        for high in [entry, 0, ALL] {
+            assert_eq!(propose(1, words, [entry, high]), owned(expected), "{words:016X?} {high:X}");
+        }
     }
+}
+
+/// Words without notes, in version 2; sweep by sweep.
+#[test]
+fn proposals_of_halves() {
+    // BRANCHZ on r1, released; NOP.
+    let release = |offset| branch(offset) & !0xFF | 0x41;
+    let nop = B & !(15 << 59);
+    // Sets as low halves and high halves.
+    type Answer<'a> = Result<(&'a [[u64; 2]], u32), Refusal>;
+    let none = Refusal::NoNotes;
+    let examples: [([u64; 2], &[u64], Answer); 16] = [
+        ([R2, R2 | R3], &[A | B], Ok((&[[R2, R2 | R3]], 1))),
+        ([R2, R3], &[A | B], Err(none)),
+        ([R2, R2], &[A], Err(none)),
+        ([R2, R2 | R3], &[A, B], Ok((&[[R2, R2 | R3], [R1 | R2, R1 | R2 | R3]], 2))),
+        ([R4, R4], &[C, B], Ok((&[[R4, R4], [R3, R3]], 2))),
+        ([R4, 0], &[C, B], Err(none)),
+        // The first sweep sets the second note, the next one the third, the last changes nothing.
+        ([0, 0], &[LOW_R1, HIGH_R1, USE_R1], Ok((&[[0, 0], [R1, 0], [R1, R1]], 3))),
+        ([0, 0], &[HIGH_R1, LOW_R1, USE_R1], Ok((&[[0, 0], [0, R1], [R1, R1]], 3))),
+        ([0, 0], &[LOW_R1, LOW_R1, USE_R1], Err(none)),
+        // One set stays as it is, the other goes on changing: both are swept until neither changes.
+        ([ALL, 0], &[nop, nop, B], Ok((&[[ALL, 0]; 3], 3))),
+        ([0, ALL], &[nop, nop, B], Ok((&[[0, ALL]; 3], 3))),
+        ([ALL, ALL], &[nop, nop, B], Ok((&[[ALL, ALL]; 3], 1))),
+        ([!R1, !R1], &[HIGH_R1, nop, nop, B], Ok((&[[!R1, !R1], [!R1, ALL], [!R1, ALL], [!R1, ALL]], 4))),
+        // The loop comes back without r1. One half write doesn't fill it again, two do.
+        ([R1 | R2, R1 | R2], &[LOW_R1, release(-2), B], Err(none)),
+        (
+            [R1 | R2, R1 | R2],
+            &[LOW_R1, HIGH_R1, release(-3), B],
+            Ok((&[[R2, R2], [R1 | R2, R2], [R1 | R2, R1 | R2], [R2, R2]], 4)),
+        ),
+        // Nothing arrives at the last one.
+        ([0, R1], &[B, B], Ok((&[[0, R1], [ALL, ALL]], 1))),
+    ];
+    for (entry, words, expected) in examples {
+        let expected = expected.map(|(notes, sweeps)| (notes.as_flattened(), sweeps));
+        assert_eq!(propose(2, words, entry), owned(expected), "{entry:X?} {words:016X?}");
+    }
+}
+
+/// 11, then 12, then the lowest unreadable word; the buffer stays.
+#[test]
+fn proposals_that_are_refused() {
+    let fault = |refusal, index| Err(Fault { refusal, index, register: 64 });
+    let infer = |version, words: &[u8], room: usize| {
+        let mut notes = vec![0xA5; room];
+        let answer = infer(version, words, [0, 0], &mut notes);
+        assert!(answer.is_ok() || notes == vec![0xA5; room], "version {version}");
+        answer
+    };
+    let good = B.to_le_bytes();
+    let stray = [good, (1u64 << 63).to_le_bytes()].concat();
+    assert_eq!((infer(1, &good, 8), infer(2, &good, 16)), (Ok(1), Ok(1)));
+    for version in [0, 3, 4, 255, 256, 257, 258, 1 << 16 | 1, 1 << 32 | 2, u64::MAX] {
+        for (words, room) in [(&good[..], 8), (&good, 16), (&good[..7], 8), (&[], 0), (&stray, 16), (&stray, 32)] {
+            assert_eq!(infer(version, words, room), fault(Refusal::Version, 0), "version {version}");
+        }
+    }
+    for (version, note) in [(1, 8), (2, 16)] {
+        assert_eq!(infer(version, &good, 24 - note), fault(Refusal::Size, 0), "the other version's notes");
+        assert_eq!(infer(version, &stray, note), fault(Refusal::Size, 0), "version {version}");
+        assert_eq!(infer(version, &good[..7], note), fault(Refusal::Size, 0), "version {version}");
+        assert_eq!(infer(version, &[], 0), fault(Refusal::Size, 0), "version {version}");
+        assert_eq!(infer(version, &good.repeat(2048), 2048 * note), Ok(1), "version {version}");
+        assert_eq!(infer(version, &good.repeat(2049), 2049 * note), fault(Refusal::Size, 0), "version {version}");
+        assert_eq!(infer(version, &stray, 2 * note), fault(Refusal::UnassignedBit(63), 1), "version {version}");
+    }
+}
+
+/// The notes as numbers, and the sweeps; a refusal, which blames no instruction, leaves the buffer.
+fn propose(version: u64, words: &[u64], entry: [u64; 2]) -> Result<(Vec<u64>, u32), Refusal> {
+    let bytes: Vec<u8> = words.iter().flat_map(|word| word.to_le_bytes()).collect();
+    let mut notes = vec![0xA5; version as usize * bytes.len()];
+    let answer = infer(version, &bytes, entry, &mut notes);
+    if let Err(fault) = answer {
+        assert_eq!((fault.index, fault.register), (0, 64));
+        assert!(notes.iter().all(|byte| *byte == 0xA5));
+    }
+    let numbers = notes.as_chunks().0.iter().map(|note| u64::from_le_bytes(*note)).collect();
+    answer.map(|sweeps| (numbers, sweeps)).map_err(|fault| fault.refusal)
+}
+
+fn owned(answer: Result<(&[u64], u32), Refusal>) -> Result<(Vec<u64>, u32), Refusal> {
+    answer.map(|(notes, sweeps)| (notes.to_vec(), sweeps))
 }
 
 /// Worked out by hand from the paper: the lists of parcels with entry set 4 and notes 0.
@@ -425,8 +663,61 @@ fn comparisons_of_sets() {
     let first = parcel(4, &[A, B], &[4, 1]);
     let second = parcel(5, &[A, B, B], &[6, 1, 7]);
     let added = line(What::Added, 2, 0, B);
-    assert_eq!(differences(&first, &second), Ok(vec![added, line(What::Entry, 0, 4, 5), line(What::Note, 0, 4, 6)]));
+    let sets = [line(What::Entry(None), 0, 4, 5), line(What::Note(None), 0, 4, 6)];
+    assert_eq!(differences(&first, &second), Ok([&[added], &sets[..]].concat()));
     assert_eq!(differences(&second, &second), Ok(Vec::new()));
+}
+
+/// Other versions: they come first, and a version 1 set stands for both halves.
+#[test]
+fn comparisons_of_versions() {
+    let old = parcel(4, &[A, B], &[4, 1]);
+    let same = parcel_2([4, 4], &[A, B], &[[4, 4], [1, 1]]);
+    assert_eq!(differences(&old, &same), Ok(vec![line(What::Version, 0, 1, 2)]));
+    assert_eq!(differences(&same, &old), Ok(vec![line(What::Version, 0, 2, 1)]));
+    assert_eq!(differences(&same, &same), Ok(Vec::new()));
+    let new = parcel_2([4, 5], &[A | B, B, C], &[[0, 4], [2, 3], [7, 7]]);
+    let lines = [
+        line(What::Version, 0, 1, 2),
+        line(What::Flow, 0, 0, 15),
+        line(What::Added, 2, 0, C),
+        line(What::Entry(Some(High)), 0, 4, 5),
+        line(What::Note(Some(Low)), 0, 4, 0),
+        line(What::Note(Some(Low)), 1, 1, 2),
+        line(What::Note(Some(High)), 1, 1, 3),
+    ];
+    assert_eq!(differences(&old, &new), Ok(lines.to_vec()));
+    let lines = [
+        line(What::Version, 0, 2, 1),
+        line(What::Flow, 0, 15, 0),
+        line(What::Removed, 2, C, 0),
+        line(What::Entry(Some(High)), 0, 5, 4),
+        line(What::Note(Some(Low)), 0, 0, 4),
+        line(What::Note(Some(Low)), 1, 2, 1),
+        line(What::Note(Some(High)), 1, 3, 1),
+    ];
+    assert_eq!(differences(&new, &old), Ok(lines.to_vec()));
+}
+
+/// Two parcels of version 2: a line for each set, in the order of the file.
+#[test]
+fn comparisons_of_halves() {
+    let first = parcel_2([1, 2], &[A, B], &[[4, 4], [8, 8]]);
+    let second = parcel_2([3, 4], &[A, B], &[[4, 5], [9, 10]]);
+    let lines = [
+        line(What::Entry(Some(Low)), 0, 1, 3),
+        line(What::Entry(Some(High)), 0, 2, 4),
+        line(What::Note(Some(High)), 0, 4, 5),
+        line(What::Note(Some(Low)), 1, 8, 9),
+        line(What::Note(Some(High)), 1, 8, 10),
+    ];
+    assert_eq!(differences(&first, &second), Ok(lines.to_vec()));
+    let unread = |side, refusal, index| Err(Unread { side, refusal, index });
+    let mut third = first.clone();
+    third[3] = 3;
+    assert_eq!(differences(&first, &third), unread(Side::Second, Refusal::Version, 0));
+    assert_eq!(differences(&third, &second[..20]), unread(Side::First, Refusal::Version, 0));
+    assert_eq!(differences(&first, &second[..20]), unread(Side::Second, Refusal::Size, 0));
 }
 
 /// The first parcel that doesn't open or read, whatever the second is.

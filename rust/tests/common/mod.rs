@@ -1,8 +1,8 @@
 //! Each function of the library beside the reference: codes, results, and memory afterwards.
 #![allow(dead_code)]
 
-use inputs::Rng;
-use reference::{Difference, Fault, Instruction, ROWS, Refusal, Side, Unread, Verdict, What};
+use inputs::{Rng, Set, parcel_of};
+use reference::{Difference, Fault, Half, Instruction, ROWS, Refusal, Side, Unread, Verdict, What};
 use std::path::{Path, PathBuf};
 use std::process::Command;
 use vsp::{DIFF_LINES, FORM, Form, NAME, TEXT, raw};
@@ -64,13 +64,23 @@ pub fn code(refusal: Refusal) -> u32 {
     u32::from(refusal.number()) | u32::from(refusal.place()) << 8
 }
 
-/// 0, or number + 2^8 place + 2^16 index + 2^32 register.
+/// 0, or number + 2^8 place + 2^16 index + 2^32 register + 2^40 half.
 pub fn verdict_code(verdict: Verdict) -> u64 {
     match verdict {
         Verdict::Accepted => 0,
-        Verdict::Refused { refusal, index, register } => {
-            u64::from(code(refusal)) | u64::from(index) << 16 | u64::from(register) << 32
+        Verdict::Refused { refusal, index, register, half } => {
+            let register = u64::from(register) | half_number(half) << 8;
+            u64::from(code(refusal)) | u64::from(index) << 16 | register << 32
         }
+    }
+}
+
+/// As documented for codes and for lines of differences.
+fn half_number(half: Option<Half>) -> u64 {
+    match half {
+        None => 0,
+        Some(Half::Low) => 1,
+        Some(Half::High) => 2,
     }
 }
 
@@ -78,7 +88,9 @@ pub fn verdict_code(verdict: Verdict) -> u64 {
 pub fn inference_code(answer: Result<u32, Fault>) -> u64 {
     match answer {
         Ok(sweeps) => u64::from(sweeps) << 16,
-        Err(Fault { refusal, index, register }) => verdict_code(Verdict::Refused { refusal, index, register }),
+        Err(Fault { refusal, index, register }) => {
+            verdict_code(Verdict::Refused { refusal, index, register, half: None })
+        }
     }
 }
 
@@ -94,18 +106,19 @@ pub fn unread_code(unread: &Unread) -> u64 {
 /// The three numbers of a line as documented.
 fn numbers(line: &Difference) -> raw::Line {
     let (what, which) = match line.what {
+        What::Version => (10, 0),
         What::Row => (0, 0),
         What::Page => (1, 0),
         What::Flow => (2, 0),
         What::Destination => (3, 0),
-        What::Source(index) => (4, index),
-        What::Modifier(low) => (5, low),
+        What::Source(index) => (4, index.into()),
+        What::Modifier(low) => (5, low.into()),
         What::Added => (6, 0),
         What::Removed => (7, 0),
-        What::Entry => (8, 0),
-        What::Note => (9, 0),
+        What::Entry(half) => (8, half_number(half)),
+        What::Note(half) => (9, half_number(half)),
     };
-    [what | u64::from(which) << 8 | u64::from(line.index) << 16, line.first, line.second]
+    [what | which << 8 | u64::from(line.index) << 16, line.first, line.second]
 }
 
 /// The form of an instruction, byte by byte as documented.
@@ -268,17 +281,29 @@ fn put_text(buffer: &mut [u8], text: &str) {
 
 /// Checks the parcel with both; gives back the code.
 pub fn compare_check(parcel: &[u8]) -> u64 {
-    let expected = verdict_code(reference::check(parcel));
+    let expected = reference::check(parcel);
     let answer = raw::check(parcel);
-    assert_eq!(answer, expected, "checking {}", hex(parcel));
-    let safe = match vsp::check(parcel) {
-        vsp::Verdict::Accepted => 0,
-        vsp::Verdict::Refused { number, place, index, register } => {
-            u64::from(number) | u64::from(place) << 8 | u64::from(index) << 16 | u64::from(register) << 32
-        }
-    };
-    assert_eq!(safe, expected, "checking {}", hex(parcel));
+    assert_eq!(answer, verdict_code(expected), "checking {}", hex(parcel));
+    assert_eq!(vsp::check(parcel), typed_verdict(expected), "checking {}", hex(parcel));
     answer
+}
+
+/// The verdict in the wrapper's types.
+fn typed_verdict(verdict: Verdict) -> vsp::Verdict {
+    match verdict {
+        Verdict::Accepted => vsp::Verdict::Accepted,
+        Verdict::Refused { refusal, index, register, half } => {
+            let vsp::Refusal { number, place } = from_refusal(refusal);
+            vsp::Verdict::Refused { number, place, index, register, half: half.map(typed_half) }
+        }
+    }
+}
+
+fn typed_half(half: Half) -> vsp::Half {
+    match half {
+        Half::Low => vsp::Half::Low,
+        Half::High => vsp::Half::High,
+    }
 }
 
 /// Checks the parcel with both, and that the reference gives the verdict it was made for.
@@ -287,32 +312,56 @@ pub fn compare_check_as(parcel: &[u8], verdict: Verdict) -> u64 {
     compare_check(parcel)
 }
 
-/// Makes notes with both, into a buffer of this length, and checks the parcel with them; gives
-/// back the code.
-pub fn compare_infer(rng: &mut Rng, words: &[u8], entry: u64, length: usize) -> u64 {
+/// Makes notes with both, into a buffer of this length, for a parcel of the version whose sets
+/// these are, and checks the parcel with them; gives back the code.
+pub fn compare_infer<S: Set>(rng: &mut Rng, words: &[u8], entry: S, length: usize) -> u64 {
+    let [low, high] = entry.halves();
+    // In version 1 the second set plays no part.
+    let halves = if S::VERSION == 1 { [low, !high] } else { [low, high] };
+    let (answer, notes) = compare_version(rng, S::VERSION.into(), words, halves, length);
+    if let Some(notes) = notes {
+        let notes: Vec<S> = notes.chunks_exact(S::BYTES).map(S::load).collect();
+        let words: Vec<u64> = words.as_chunks().0.iter().map(|word| u64::from_le_bytes(*word)).collect();
+        let parcel = parcel_of(entry, &words, &notes);
+        assert_eq!(vsp::check(&parcel), vsp::Verdict::Accepted, "checking {}", hex(&parcel));
+    }
+    answer
+}
+
+/// Makes notes with both, for a parcel of this version, known or not, and with these low and high
+/// halves held before the start; gives back the code, and the notes where they are proposed.
+pub fn compare_version(
+    rng: &mut Rng,
+    version: u64,
+    words: &[u8],
+    entry: [u64; 2],
+    length: usize,
+) -> (u64, Option<Vec<u8>>) {
+    let about = || format!("notes of {length} bytes, version {version}, for {entry:X?}, {}", hex(words));
     let (mut bytes, part) = memory(rng, length);
     let (mut after, mut safe) = (bytes.clone(), bytes.clone());
-    let answer = reference::infer(words, entry, &mut after[part.clone()]);
-    if answer.is_err() {
-        assert_eq!(after, bytes, "the reference's buffer after {}", hex(words));
+    let expected = reference::infer(version, words, entry, &mut after[part.clone()]);
+    if expected.is_err() {
+        assert_eq!(after, bytes, "the reference's buffer: {}", about());
     }
-    let expected = inference_code(answer);
-    let answer = raw::infer(words, entry, &mut bytes[part.clone()]);
-    assert_eq!(answer, expected, "notes for {entry:X}, {}", hex(words));
-    assert_eq!(bytes, after, "the buffer of {length} bytes after {entry:X}, {}", hex(words));
-    match vsp::infer(words, entry, &mut safe[part.clone()]) {
-        vsp::Inference::Proposed { sweeps } => {
-            assert_eq!(u64::from(sweeps) << 16, expected, "notes for {entry:X}, {}", hex(words));
-            let parcel = put_together(entry, words, &safe[part]);
-            assert_eq!(vsp::check(&parcel), vsp::Verdict::Accepted, "checking {}", hex(&parcel));
-        }
-        vsp::Inference::Refused { number, place, index, register } => {
-            let code = u64::from(number) | u64::from(place) << 8 | u64::from(index) << 16 | u64::from(register) << 32;
-            assert_eq!(code, expected, "notes for {entry:X}, {}", hex(words));
+    let answer = raw::infer(version, words, entry[0], entry[1], &mut bytes[part.clone()]);
+    assert_eq!(answer, inference_code(expected), "{}", about());
+    assert_eq!(bytes, after, "{}", about());
+    let typed = vsp::infer(version, words, entry[0], entry[1], &mut safe[part.clone()]);
+    assert_eq!(typed, typed_inference(expected), "{}", about());
+    assert_eq!(safe, after, "{}", about());
+    (answer, expected.is_ok().then(|| bytes[part].to_vec()))
+}
+
+/// The answer in the wrapper's types.
+fn typed_inference(answer: Result<u32, Fault>) -> vsp::Inference {
+    match answer {
+        Ok(sweeps) => vsp::Inference::Proposed { sweeps: sweeps as u16 },
+        Err(Fault { refusal, index, register }) => {
+            let vsp::Refusal { number, place } = from_refusal(refusal);
+            vsp::Inference::Refused { number, place, index, register }
         }
     }
-    assert_eq!(safe, after, "the buffer of {length} bytes after {entry:X}, {}", hex(words));
-    answer
 }
 
 /// Compares parcels with both.
@@ -384,6 +433,7 @@ fn pair(first: &[u8], second: &[u8]) -> String {
 /// The line in the wrapper's types.
 fn typed(line: &Difference) -> vsp::Difference {
     let what = match line.what {
+        What::Version => vsp::What::Version,
         What::Row => vsp::What::Row,
         What::Page => vsp::What::Page,
         What::Flow => vsp::What::Flow,
@@ -392,8 +442,8 @@ fn typed(line: &Difference) -> vsp::Difference {
         What::Modifier(low) => vsp::What::Modifier(low),
         What::Added => vsp::What::Added,
         What::Removed => vsp::What::Removed,
-        What::Entry => vsp::What::Entry,
-        What::Note => vsp::What::Note,
+        What::Entry(half) => vsp::What::Entry(half.map(typed_half)),
+        What::Note(half) => vsp::What::Note(half.map(typed_half)),
     };
     vsp::Difference { what, index: line.index, first: line.first, second: line.second }
 }
@@ -405,12 +455,6 @@ fn typed_unread(unread: &Unread) -> vsp::Unread {
     };
     let vsp::Refusal { number, place } = from_refusal(unread.refusal);
     vsp::Unread { side, number, place, index: unread.index, register: 64 }
-}
-
-/// The parcel with these words and notes.
-fn put_together(entry: u64, words: &[u8], notes: &[u8]) -> Vec<u8> {
-    let count = (words.len() / 8) as u16;
-    [b"VSP\x01\0\0", &count.to_le_bytes()[..], &entry.to_le_bytes(), words, notes].concat()
 }
 
 /// Upper-case digits without spaces.

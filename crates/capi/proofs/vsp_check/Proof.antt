@@ -3,7 +3,7 @@ use denote.Ref.{now}
 use Rattle.safety.specs.declared.verdict.Verdict.{Verdict}
 use Rattle.safety.specs.Verdict.{verdict-outcome}
 use Rattle.codes.specs.Codes.{verdict-code}
-use Rattle.codes.proofs.CodeLaws.{index-small}
+use Rattle.codes.proofs.CodeLaws.{roomy}
 use Rattle.codes.proofs.PromiseLaws.{demanded}
 use borrow.Author.Needs.{needs}
 use Rattle.capi.proofs.vsp_check.Statement.{statement}
@@ -19,8 +19,10 @@ enum-known-v : tie.Need-enum-known-v
 enum-known-v c = search needs
 
 finding-code-requires : tie.Need-finding-code-requires
-finding-code-requires c κs = let s = now (c .before .before .before .before .before .args .container) in
-    index-small s (λ k. c .before .before .before .before .shared-slice-known .given k .fits) (sym (c .before .before .before .verify .ensures .0) ∙ ap verdict-outcome (c .before .v .given .1))
+finding-code-requires c κs =
+    let s = now (c .before .before .before .before .before .args .container) in
+    let q = roomy s (λ k. c .before .before .before .before .shared-slice-known .given k .fits) (sym (c .before .before .before .verify .ensures .0) ∙ ap verdict-outcome (c .before .v .given .1)) in
+    (q .index, q .register)
 
 returns : tie.Need-returns
 returns c =
@@ -29,7 +31,7 @@ returns c =
 
 returns-2 : tie.Need-returns-2
 returns-2 c =
-    let e = c .finding-code .ensures ∙ ap (λ (v : Verdict). verdict-code (verdict-outcome v)) (sym (c .before .before .v .given .1)) ∙ ap verdict-code (c .before .before .before .before .verify .ensures .0) in
+    let e = c .finding-code .ensures .0 ∙ ap (λ (v : Verdict). verdict-code (verdict-outcome v)) (sym (c .before .before .v .given .1)) ∙ ap verdict-code (c .before .before .before .before .verify .ensures .0) in
     (e, demanded _ (λ k. c .before .before .before .before .before .shared-slice-known .given k .fits) e)
 
 pub vsp-check-spec : {M : Type 1} → statement M

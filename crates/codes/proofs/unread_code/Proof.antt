@@ -25,10 +25,10 @@ add-result-2 : tie.Need-add-result-2
 add-result-2 c = search needs
 
 returns : tie.Need-returns
-returns c = ap₂ (λ (x : ℕ) (d : Side). x + 2 ^ 48 * side-number d) (c .finding-code .ensures) (sym (c .before .enum-told .given .1))
+returns c = ap₂ (λ (x : ℕ) (d : Side). x + 2 ^ 48 * side-number d) (c .finding-code .ensures .0) (sym (c .before .enum-told .given .1))
 
 returns-2 : tie.Need-returns-2
-returns-2 c = ap₂ (λ (x : ℕ) (d : Side). x + 2 ^ 48 * side-number d) (c .finding-code2 .ensures) (sym (c .before .enum-told2 .given .1))
+returns-2 c = ap₂ (λ (x : ℕ) (d : Side). x + 2 ^ 48 * side-number d) (c .finding-code2 .ensures .0) (sym (c .before .enum-told2 .given .1))
 
 pub unread-code-spec : {M : Type 1} → statement M
 unread-code-spec =

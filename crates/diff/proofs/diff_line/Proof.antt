@@ -1,9 +1,9 @@
 use mathlib.Core.Path.{_≡_, sym, ap, _∙_}
 use denote.Ref.{now}
-use borrow.Author.Needs.{needs}
 use Rattle.bits.specs.Outcomes.{passes}
 use Rattle.differences.specs.Answers.{ready-outcome, both-read}
-use Rattle.diff.proofs.AnswerLaws.{counted-by, line-told, line-untold}
+use Rattle.diff.proofs.AnswerLaws.{are-both, line-told, line-untold}
+use borrow.Author.Needs.{needs}
 use Rattle.diff.proofs.diff_line.Statement.{statement}
 use Rattle.diff.proofs.diff_line.Tie as tie
 
@@ -17,43 +17,23 @@ both-read-requires c κs = search needs
 enum-told : tie.Need-enum-told
 enum-told c = search needs
 
-open-count-requires : tie.Need-open-count-requires
-open-count-requires c κs = search needs
-
-open-count-requires-2 : tie.Need-open-count-requires-2
-open-count-requires-2 c κs = search needs
-
-walk-to-requires : tie.Need-walk-to-requires
-walk-to-requires c κs =
-    let o = c .before .before .before in
-    let t = o .before in
-    let s = t .before .before .before .before .before in
-    counted-by (now (s .args .first)) (now (s .args .second)) (ready t) (o .open-count .ensures) (c .before .before .open-count2 .ensures)
+list-line-requires : tie.Need-list-line-requires
+list-line-requires c κs = are-both (now (c .before .before .before .before .before .args .first)) (now (c .before .before .before .before .before .args .second)) (ready c)
 
 enum-known-u : tie.Need-enum-known-u
 enum-known-u c = search needs
 
 returns : tie.Need-returns
 returns c =
-    let t = c .before .before .before .before .before in
-    let s = t .before .before .before .before .before in
-    line-told (now (s .args .first)) (now (s .args .second)) (ready t) (s .args .k) (c .walk-to .ensures)
+    let s = c .before .before .before .before .before .before in
+    line-told (now (s .args .first)) (now (s .args .second)) (ready (c .before)) (s .args .k) (c .list-line .ensures)
 
 returns-2 : tie.Need-returns-2
 returns-2 c =
-    let r = c .before .before .before in
-    let s = r .before .before .before in
-    line-untold (now (s .args .first)) (now (s .args .second)) (ap ready-outcome (sym (c .before .u .given .1)) ∙ r .both-read .ensures) (s .args .k)
+    let s = c .before .before .before .before .before .before in
+    line-untold (now (s .args .first)) (now (s .args .second)) (ap ready-outcome (sym (c .before .u .given .1)) ∙ c .before .before .before .both-read .ensures) (s .args .k)
 
 pub diff-line-spec : {M : Type 1} → statement M
 diff-line-spec =
     tie.close
-    (tie.spec
-    both-read-requires
-    enum-told
-    open-count-requires
-    open-count-requires-2
-    walk-to-requires
-    enum-known-u
-    returns
-    returns-2)
+    (tie.spec both-read-requires enum-told list-line-requires enum-known-u returns returns-2)

@@ -1,7 +1,7 @@
 use mathlib.Core.Path.{_≡_, sym, ap, ap₂, _∙_}
 use mathlib.Core.List.{List, [], _∷_}
 use mathlib.Core.Option.{Option, none, some}
-use Prim.Native.Nat.{ℕ, zero, suc, _+_, _-_, _<_, _≤_}
+use Prim.Native.Nat.{ℕ, suc, _+_, _-_, _<_, _≤_}
 use native.Mathlib.Nat.{sub-zero}
 use native.Mathlib.Omega.{arith}
 use denote.Ref.{now}
@@ -11,14 +11,14 @@ use Rattle.bits.specs.Outcomes.{Outcome, gives}
 use Rattle.differences.specs.declared.answer.Unread.{Unread}
 use Rattle.differences.specs.declared.line.Line.{Line}
 use Rattle.diff.specs.declared.cursor.Step.{Step}
-use Rattle.differences.specs.Differences.{differences}
+use Rattle.differences.specs.Differences.{content-lines}
 use Rattle.diff.specs.served.Cursor.{remaining, stepped}
 use Rattle.diff.proofs.WalkLaws.{from-start}
 use Rattle.diff.proofs.walk_to.Statement.{statement}
 use Rattle.diff.proofs.walk_to.Tie as tie
 
 abbrev Inv-loop : tie.InvT-loop
-Inv-loop first n second m k xs₀ ys₀ at₀ i₀ xs ys at i = (i ≤ k) × (kth (differences first second) k ≡ kth (remaining first second at xs ys) (k - i))
+Inv-loop first n second m k xs₀ ys₀ at₀ i₀ xs ys at i = (i ≤ k) × (kth (content-lines first second) k ≡ kth (remaining first second at xs ys) (k - i))
 
 abbrev μ-loop : tie.MeasureT-loop
 μ-loop first n second m k xs₀ ys₀ at₀ i₀ xs ys at i = k - i
@@ -61,7 +61,7 @@ returns c =
     let v = c .before .before in
     let l = v .before .before .before .before in
     let s = l .before .before .before in
-    fewer (differences (now (s .args .first)) (now (s .args .second))) (remaining (now (s .args .first)) (now (s .args .second)) (l .loop .at) (l .loop .xs) (l .loop .ys)) (s .args .k) (s .args .k - l .loop .i) (l .loop .inv .1) (ap (λ (r : Step). stepped (now (s .args .first)) (now (s .args .second)) r (v .advance .last .1 .1 .1 .1 .1 .0) (v .advance .last .1 .1 .1 .1 .1 .1 .0)) (sym (c .enum-told .given .1)) ∙ v .advance .ensures)
+    fewer (content-lines (now (s .args .first)) (now (s .args .second))) (remaining (now (s .args .first)) (now (s .args .second)) (l .loop .at) (l .loop .xs) (l .loop .ys)) (s .args .k) (s .args .k - l .loop .i) (l .loop .inv .1) (ap (λ (r : Step). stepped (now (s .args .first)) (now (s .args .second)) r (v .advance .last .1 .1 .1 .1 .1 .0) (v .advance .last .1 .1 .1 .1 .1 .1 .0)) (sym (c .enum-told .given .1)) ∙ v .advance .ensures)
 
 add-i : tie.Need-add-i Inv-loop μ-loop
 add-i c = search needs
@@ -74,7 +74,7 @@ loop-again c =
     let v = c .before .before .before in
     let l = v .before .before .before .before in
     let s = l .before .before .before in
-    (omega (arith, v .before .before .before .loop-test .taken), onward (differences (now (s .args .first)) (now (s .args .second))) (remaining (now (s .args .first)) (now (s .args .second)) (l .loop .at) (l .loop .xs) (l .loop .ys)) (s .args .k) (remaining (now (s .args .first)) (now (s .args .second)) (c .before .next .given .0 .1 .0) (v .advance .last .1 .1 .1 .1 .1 .0) (v .advance .last .1 .1 .1 .1 .1 .1 .0)) (c .before .next .given .0 .0) (l .loop .i) (l .loop .inv .1) (ap (λ (r : Step). stepped (now (s .args .first)) (now (s .args .second)) r (v .advance .last .1 .1 .1 .1 .1 .0) (v .advance .last .1 .1 .1 .1 .1 .1 .0)) (sym (c .before .next .given .1)) ∙ v .advance .ensures) (v .before .before .before .loop-test .taken))
+    (omega (arith, v .before .before .before .loop-test .taken), onward (content-lines (now (s .args .first)) (now (s .args .second))) (remaining (now (s .args .first)) (now (s .args .second)) (l .loop .at) (l .loop .xs) (l .loop .ys)) (s .args .k) (remaining (now (s .args .first)) (now (s .args .second)) (c .before .next .given .0 .1 .0) (v .advance .last .1 .1 .1 .1 .1 .0) (v .advance .last .1 .1 .1 .1 .1 .1 .0)) (c .before .next .given .0 .0) (l .loop .i) (l .loop .inv .1) (ap (λ (r : Step). stepped (now (s .args .first)) (now (s .args .second)) r (v .advance .last .1 .1 .1 .1 .1 .0) (v .advance .last .1 .1 .1 .1 .1 .1 .0)) (sym (c .before .next .given .1)) ∙ v .advance .ensures) (v .before .before .before .loop-test .taken))
 
 advance-requires-2 : tie.Need-advance-requires-2 Inv-loop μ-loop
 advance-requires-2 c κs = search needs
@@ -90,14 +90,14 @@ returns-2 c =
     let v = c .before .before .before in
     let l = v .before .before .before .before in
     let s = l .before .before .before in
-    arrived (differences (now (s .args .first)) (now (s .args .second))) (remaining (now (s .args .first)) (now (s .args .second)) (l .loop .at) (l .loop .xs) (l .loop .ys)) (s .args .k) (remaining (now (s .args .first)) (now (s .args .second)) (c .before .line .given .0 .1 .0) (v .advance2 .last .1 .1 .1 .1 .1 .0) (v .advance2 .last .1 .1 .1 .1 .1 .1 .0)) (c .before .line .given .0 .0) (l .loop .i) (l .loop .inv .1) (ap (λ (r : Step). stepped (now (s .args .first)) (now (s .args .second)) r (v .advance2 .last .1 .1 .1 .1 .1 .0) (v .advance2 .last .1 .1 .1 .1 .1 .1 .0)) (sym (c .before .line .given .1)) ∙ v .advance2 .ensures) (v .before .before .before .loop-test .left)
+    arrived (content-lines (now (s .args .first)) (now (s .args .second))) (remaining (now (s .args .first)) (now (s .args .second)) (l .loop .at) (l .loop .xs) (l .loop .ys)) (s .args .k) (remaining (now (s .args .first)) (now (s .args .second)) (c .before .line .given .0 .1 .0) (v .advance2 .last .1 .1 .1 .1 .1 .0) (v .advance2 .last .1 .1 .1 .1 .1 .1 .0)) (c .before .line .given .0 .0) (l .loop .i) (l .loop .inv .1) (ap (λ (r : Step). stepped (now (s .args .first)) (now (s .args .second)) r (v .advance2 .last .1 .1 .1 .1 .1 .0) (v .advance2 .last .1 .1 .1 .1 .1 .1 .0)) (sym (c .before .line .given .1)) ∙ v .advance2 .ensures) (v .before .before .before .loop-test .left)
 
 returns-3 : tie.Need-returns-3 Inv-loop μ-loop
 returns-3 c =
     let v = c .before .before in
     let l = v .before .before .before .before in
     let s = l .before .before .before in
-    fewer (differences (now (s .args .first)) (now (s .args .second))) (remaining (now (s .args .first)) (now (s .args .second)) (l .loop .at) (l .loop .xs) (l .loop .ys)) (s .args .k) (s .args .k - l .loop .i) (l .loop .inv .1) (ap (λ (r : Step). stepped (now (s .args .first)) (now (s .args .second)) r (v .advance2 .last .1 .1 .1 .1 .1 .0) (v .advance2 .last .1 .1 .1 .1 .1 .1 .0)) (sym (c .enum-told2 .given .1)) ∙ v .advance2 .ensures)
+    fewer (content-lines (now (s .args .first)) (now (s .args .second))) (remaining (now (s .args .first)) (now (s .args .second)) (l .loop .at) (l .loop .xs) (l .loop .ys)) (s .args .k) (s .args .k - l .loop .i) (l .loop .inv .1) (ap (λ (r : Step). stepped (now (s .args .first)) (now (s .args .second)) r (v .advance2 .last .1 .1 .1 .1 .1 .0) (v .advance2 .last .1 .1 .1 .1 .1 .1 .0)) (sym (c .enum-told2 .given .1)) ∙ v .advance2 .ensures)
 
 pub walk-to-spec : {M : Type 1} → statement M
 walk-to-spec =

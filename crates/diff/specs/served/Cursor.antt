@@ -1,4 +1,4 @@
--- The list of differences as it is walked: field by field through the instructions that both have, and then part by part.
+-- What differs as it is walked, the versions apart: field by field through the instructions that both have, and then part by part.
 use mathlib.Core.Path.{_≡_}
 use mathlib.Core.Bool.{Bool, true, false, not}
 use mathlib.Core.List.{List, [], _∷_, _++_}
@@ -11,7 +11,6 @@ use Rattle.differences.specs.declared.line.Line.{Line}
 use Rattle.diff.specs.declared.cursor.At.{At}
 use Rattle.diff.specs.declared.cursor.Step.{Step}
 use Rattle.diff.specs.declared.cursor.Step.the-variants.{Told, End}
-use Rattle.diffparts.specs.declared.single.Single.the-variants.{Told as told}
 use Rattle.differences.specs.Records.{fields, field-count}
 use Rattle.differences.specs.Differences.{line, where-differs, lines-from, shared, instruction-lines}
 use Rattle.diffparts.specs.served.Parts.{singles-from}

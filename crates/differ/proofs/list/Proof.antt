@@ -1,5 +1,4 @@
-use mathlib.Core.Path.{_∙_}
-use Rattle.view.proofs.WordLaws.{opened-count}
+use Rattle.diff.proofs.AnswerLaws.{counted-by}
 use borrow.Author.Needs.{needs}
 use Rattle.differ.proofs.list.Statement.{statement}
 use Rattle.differ.proofs.list.Tie as tie
@@ -10,17 +9,10 @@ open-count-requires c κs = search needs
 open-count-requires-2 : tie.Need-open-count-requires-2
 open-count-requires-2 c κs = search needs
 
-walk-requires : tie.Need-walk-requires
-walk-requires c κs =
+send-all-requires : tie.Need-send-all-requires
+send-all-requires c κs =
     let p = c .before .before .before .before .before .before .before .pre in
-    let b = p .1 in (
-      p .0,
-      record {
-        both = b;
-        first-count = c .before .before .before .open-count .ensures ∙ opened-count _ (b .first .opens);
-        second-count = c .before .before .open-count2 .ensures ∙ opened-count _ (b .second .opens);
-      },
-    )
+    (p .0, counted-by (p .1) (c .before .before .before .open-count .ensures) (c .before .before .open-count2 .ensures))
 
 slice-aggregate-tell : tie.Need-slice-aggregate-tell
 slice-aggregate-tell c = search needs
@@ -40,7 +32,7 @@ list-spec =
     (tie.spec
     open-count-requires
     open-count-requires-2
-    walk-requires
+    send-all-requires
     slice-aggregate-tell
     tell-requires
     returns

@@ -15,15 +15,15 @@ use Rattle.differ.proofs.walk.Statement.{statement}
 use Rattle.differ.proofs.walk.Tie as tie
 
 abbrev Inv-loop : tie.InvT-loop
-Inv-loop bytes input first n second m xs₀ ys₀ at₀ k₀ xs ys at k = (k ≤ length (differences first second)) × (remaining first second at xs ys ≡ drop k (differences first second))
+Inv-loop bytes input first n second m from xs₀ ys₀ at₀ k₀ xs ys at k = (k ≤ length (differences first second)) × (remaining first second at xs ys ≡ drop k (differences first second))
 
 abbrev μ-loop : tie.MeasureT-loop
-μ-loop bytes input first n second m xs₀ ys₀ at₀ k₀ xs ys at k = most-lines - k
+μ-loop bytes input first n second m from xs₀ ys₀ at₀ k₀ xs ys at k = most-lines - k
 
 loop-holds : tie.Need-loop-holds Inv-loop μ-loop
 loop-holds c =
     let s = c .before .before .before in
-    (omega arith, from-start (now (s .args .first)) (now (s .args .second)) (now (s .args .xs)) (now (s .args .ys)))
+    (s .pre .2, from-start (now (s .args .first)) (now (s .args .second)) (now (s .args .xs)) (now (s .args .ys)) ∙ s .pre .3)
 
 advance-requires : tie.Need-advance-requires Inv-loop μ-loop
 advance-requires c κs = search needs

@@ -3,7 +3,7 @@ use native.Mathlib.Omega.{arith}
 use denote.Ref.{now}
 use Rattle.bits.specs.Outcomes.{passes}
 use Rattle.differences.specs.Answers.{ready-outcome, both-read}
-use Rattle.diff.proofs.AnswerLaws.{counted-by, list-told, list-untold}
+use Rattle.diff.proofs.AnswerLaws.{counted-by, are-both, list-told, list-untold}
 use Rattle.difflist.proofs.FillLaws.{front-placed}
 use borrow.Author.Needs.{needs}
 use Rattle.difflist.proofs.diff_lines.Statement.{statement}
@@ -30,7 +30,7 @@ put-lines-requires c κs =
     let o = c .before .before .before .before in
     let t = o .before in
     let s = t .before .before .before .before .before in
-    (counted-by (now (s .args .first)) (now (s .args .second)) (ready t) (o .open-count .ensures) (c .before .before .before .open-count2 .ensures), omega arith)
+    (counted-by (are-both (now (s .args .first)) (now (s .args .second)) (ready t)) (o .open-count .ensures) (c .before .before .before .open-count2 .ensures), omega arith)
 
 enum-known-u : tie.Need-enum-known-u
 enum-known-u c = search needs

@@ -1,46 +1,33 @@
 use mathlib.Core.Path.{ap, _∙_}
-use Prim.Native.Nat.{ℕ, _*_}
-use native.Mathlib.Nat.{add-sub-cancel-left}
+use Prim.Native.Nat.{_+_, _*_}
+use native.Mathlib.Omega.{arith}
 use denote.Ref.{now}
-use lib.ListN.{take, drop}
-use Rattle.bits.specs.Bytes.{little}
+use Rattle.bits.specs.Halves.{halves}
+use Rattle.container.specs.declared.format.Format.{Format}
+use Rattle.container.specs.Container.{number}
+use Rattle.container.proofs.FormatLaws.{note-inside}
 use Rattle.safety.specs.Program.{annotation-at}
 use borrow.Author.Needs.{needs}
 use Rattle.flow.proofs.annotation_at.Statement.{statement}
 use Rattle.flow.proofs.annotation_at.Tie as tie
 
-mul-start : tie.Need-mul-start
-mul-start c = search needs
+format-of-requires : tie.Need-format-of-requires
+format-of-requires c κs = search needs
 
-add-end : tie.Need-add-end
-add-end c = search needs
+mul-halves-in : tie.Need-mul-halves-in
+mul-halves-in c = record { fits = omega (arith, note-inside _ (c .before .format-of .ensures) (c .before .before .before .pre .0 .long) (c .before .before .before .pre .1)) }
 
-sub-load64 : tie.Need-sub-load64
-sub-load64 c = search needs
-
-part-load64-start : tie.Need-part-load64-start
-part-load64-start c = search needs
-
-part-load64-end : tie.Need-part-load64-end
-part-load64-end c = search needs
-
-load64-requires : tie.Need-load64-requires
-load64-requires c κs = search needs
+halves-in-requires : tie.Need-halves-in-requires
+halves-in-requires c κs = note-inside _ (c .before .format-of .ensures) (c .before .before .before .pre .0 .long) (c .before .before .before .pre .1)
 
 returns : tie.Need-returns
 unfolding annotation-at
 returns c =
-    let a = c .before .before .before .args in
-    c .load64 .ensures ∙ ap (λ (k : ℕ). little (take k (drop (8 * a .i) (now (a .annotations))))) (add-sub-cancel-left (8 * a .i) 8)
+    let a = c .before .before .before .before .args in
+    let s = now (a .annotations) in
+    c .halves-in .ensures
+    ∙ ap (λ (f : Format). halves (number s (f .annotation * a .i) 8) (number s (f .annotation * a .i + f .high) 8)) (c .before .before .format-of .ensures)
 
 pub annotation-at-spec : {M : Type 1} → statement M
 annotation-at-spec =
-    tie.close
-    (tie.spec
-    mul-start
-    add-end
-    sub-load64
-    part-load64-start
-    part-load64-end
-    load64-requires
-    returns)
+    tie.close (tie.spec format-of-requires mul-halves-in halves-in-requires returns)

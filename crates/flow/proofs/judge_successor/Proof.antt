@@ -1,6 +1,6 @@
 use mathlib.Core.Path.{ap, _∙_}
-use Prim.Native.Nat.{ℕ}
 use denote.Ref.{now}
+use Rattle.bits.specs.declared.halves.Halves.{Halves}
 use Rattle.safety.specs.Program.{annotation-at}
 use Rattle.safety.specs.Verdict.{none-missing}
 use Rattle.safety.proofs.VerdictLaws.{outside-to, inside-to}
@@ -14,7 +14,7 @@ refused-requires c κs = search needs
 returns : tie.Need-returns
 returns c =
     let a = c .before .before .before .args in
-    c .refused .ensures ∙ outside-to (a .n) (annotation-at (now (a .annotations))) (a .i) (a .held) (a .j) (c .before .if1 .taken)
+    c .refused .ensures ∙ outside-to (a .n) (annotation-at (a .version) (now (a .annotations))) (a .i) (a .held) (a .j) (c .before .if1 .taken)
 
 annotation-at-requires : tie.Need-annotation-at-requires
 annotation-at-requires c κs = search needs
@@ -25,8 +25,8 @@ none-missing-requires c κs = search needs
 returns-2 : tie.Need-returns-2
 returns-2 c =
     let a = c .before .before .before .before .args in
-    c .none-missing .ensures ∙ ap (λ (m : ℕ). none-missing 22 (a .i) m (a .held)) (c .before .annotation-at .ensures)
-    ∙ inside-to (a .n) (annotation-at (now (a .annotations))) (a .i) (a .held) (a .j) (c .before .before .if1 .left)
+    c .none-missing .ensures ∙ ap (λ (m : Halves). none-missing 22 (a .i) m (a .held)) (c .before .annotation-at .ensures)
+    ∙ inside-to (a .n) (annotation-at (a .version) (now (a .annotations))) (a .i) (a .held) (a .j) (c .before .before .if1 .left)
 
 pub judge-successor-spec : {M : Type 1} → statement M
 judge-successor-spec =

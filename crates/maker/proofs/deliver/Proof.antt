@@ -9,7 +9,7 @@ pack-requires c κs = search needs
 send-requires : tie.Need-send-requires
 send-requires c κs =
     let p = c .before .before .before .before .before .before .before .before .before .pre in
-    (p .0, p .2, packed (p .1) _ (p .3) (p .4) (p .5) (c .before .before .before .pack .ensures .1))
+    (p .0, p .2, packed (p .1) _ (p .3) (p .4) (p .5) (p .6) (c .before .before .before .pack .ensures .1))
 
 tell-sweeps-requires : tie.Need-tell-sweeps-requires
 tell-sweeps-requires c κs = search needs

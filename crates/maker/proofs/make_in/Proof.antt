@@ -16,7 +16,8 @@ deliver-requires c κs =
     let p = c .before .before .before .before .before .before .before .before .before .before .before .before .before .pre in
     let i = c .before .before .before .before .before .before .before .infer .ensures in
     let e = ap inference-outcome (c .before .before .before .answer .given .1) in
-    (p .0, p .1, answered (p .1) (p .2) i ∙ e, noted (p .1) (p .2) i, fits (p .1) (p .2) i e (c .before .before .before .before .before .before .before .infer .kept .1 .1 .0), p .3)
+    let f = fits (p .1) (p .2) i e (c .before .before .before .before .before .before .before .infer .kept .1 .1 .1 .0) in
+    (p .0, p .1, answered (p .1) (p .2) i ∙ e, noted (p .1) (p .2) i, f .0, f .1, p .3)
 
 enum-known-answer-2 : tie.Need-enum-known-answer-2
 enum-known-answer-2 c = search needs

@@ -3,8 +3,8 @@ use mathlib.Core.List.{List}
 use Prim.Native.Nat.{ℕ, zero, suc}
 use lib.Dec.{ltb}
 use lib.ListN.{set, replicate}
+use Rattle.container.specs.Formats.{most-instructions}
 use Rattle.bits.specs.Fields.{choose}
-use Rattle.container.specs.Container.{most-instructions}
 use Rattle.showlines.specs.Lines.{leads-to}
 
 abbrev pub marked-at : List ℕ → ℕ → ℕ → List ℕ

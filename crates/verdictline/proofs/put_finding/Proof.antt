@@ -1,7 +1,7 @@
+use native.Mathlib.Omega.{arith}
+use Rattle.rows.specs.Names.{ascii}
 use Rattle.text.proofs.TextLaws.{put-next}
 use Rattle.verdictline.specs.VerdictLine.{verdict-line}
-use Rattle.rows.specs.Names.{ascii}
-use native.Mathlib.Omega.{arith}
 use borrow.Author.Needs.{needs}
 use Rattle.verdictline.proofs.put_finding.Statement.{statement}
 use Rattle.verdictline.proofs.put_finding.Tie as tie
@@ -63,6 +63,21 @@ put-spaced-requires-3 c κs = search needs
 add-at-3 : tie.Need-add-at-3
 add-at-3 c = search needs
 
+sub-put-letter : tie.Need-sub-put-letter
+sub-put-letter c = search needs
+
+part-put-letter-start : tie.Need-part-put-letter-start
+part-put-letter-start c = search needs
+
+part-put-letter-end : tie.Need-part-put-letter-end
+part-put-letter-end c = search needs
+
+put-letter-requires : tie.Need-put-letter-requires
+put-letter-requires c κs = search needs
+
+add-at-4 : tie.Need-add-at-4
+add-at-4 c = search needs
+
 sub-put-end : tie.Need-sub-put-end
 sub-put-end c = search needs
 
@@ -75,8 +90,8 @@ part-put-end-end c = search needs
 put-end-requires : tie.Need-put-end-requires
 put-end-requires c κs = search needs
 
-add-at-4 : tie.Need-add-at-4
-add-at-4 c = search needs
+add-at-5 : tie.Need-add-at-5
+add-at-5 c = omega (arith, c .before .before .put-end .ensures .1, c .before .before .before .before .before .before .put-letter .ensures .1, c .before .before .before .before .before .before .before .before .before .before .put-spaced3 .ensures .1, c .before .before .before .before .before .before .before .before .before .before .before .before .before .before .before .put-spaced2 .ensures .1, c .before .before .before .before .before .before .before .before .before .before .before .before .before .before .before .before .before .before .before .put-spaced .ensures .1, c .before .before .before .before .before .before .before .before .before .before .before .before .before .before .before .before .before .before .before .before .before .before .before .before .put-text .ensures .counts)
 
 same-length : tie.Need-same-length
 same-length c = search needs
@@ -87,11 +102,13 @@ returns c = (
   put-next
       (put-next
       (put-next
-      (put-next (c .before .before .before .before .before .before .before .before .before .before .before .before .before .before .before .before .before .before .before .before .put-text .ensures) (c .before .before .before .before .before .before .before .before .before .before .before .before .before .before .before .put-spaced .ensures .0))
-      (c .before .before .before .before .before .before .before .before .before .before .before .put-spaced2 .ensures .0))
-      (c .before .before .before .before .before .before .put-spaced3 .ensures .0))
+      (put-next
+      (put-next (c .before .before .before .before .before .before .before .before .before .before .before .before .before .before .before .before .before .before .before .before .before .before .before .before .put-text .ensures) (c .before .before .before .before .before .before .before .before .before .before .before .before .before .before .before .before .before .before .before .put-spaced .ensures .0))
+      (c .before .before .before .before .before .before .before .before .before .before .before .before .before .before .before .put-spaced2 .ensures .0))
+      (c .before .before .before .before .before .before .before .before .before .before .put-spaced3 .ensures .0))
+      (c .before .before .before .before .before .before .put-letter .ensures .0))
       (c .before .before .put-end .ensures .0),
-  omega (arith, c .before .before .put-end .ensures .1),
+  omega (arith, c .before .before .put-end .ensures .1, c .before .before .before .before .before .before .put-letter .ensures .1, c .before .before .before .before .before .before .before .before .before .before .put-spaced3 .ensures .1, c .before .before .before .before .before .before .before .before .before .before .before .before .before .before .before .put-spaced2 .ensures .1, c .before .before .before .before .before .before .before .before .before .before .before .before .before .before .before .before .before .before .before .put-spaced .ensures .1, c .before .before .before .before .before .before .before .before .before .before .before .before .before .before .before .before .before .before .before .before .before .before .before .before .put-text .ensures .counts),
 )
 
 pub put-finding-spec : {M : Type 1} → statement M
@@ -117,10 +134,15 @@ put-finding-spec =
     part-put-spaced-end-3
     put-spaced-requires-3
     add-at-3
+    sub-put-letter
+    part-put-letter-start
+    part-put-letter-end
+    put-letter-requires
+    add-at-4
     sub-put-end
     part-put-end-start
     part-put-end-end
     put-end-requires
-    add-at-4
+    add-at-5
     same-length
     returns)

@@ -5,20 +5,22 @@ use native.Mathlib.Omega.{arith}
 use lib.ListN.{take, drop}
 use borrow.Author.Needs.{needs}
 use denote.Ref.{now}
-use Rattle.container.specs.Container.{annotation-length, annotations-start}
-use Rattle.container.proofs.OpeningLaws.{Sized, sized, opened-by, refused-by}
-use Rattle.container.proofs.header.open.Reads as open-reads
-use Rattle.container.proofs.parts.annotations.Lts as lts
-use Rattle.container.proofs.parts.annotations.Reads as reads
+use Rattle.container.specs.Formats.{annotation-length}
+use Rattle.container.specs.Container.{annotations-start}
+use Rattle.container.proofs.OpeningLaws.{Placed, placed, opened-by, refused-by}
 use Rattle.container.proofs.parts.annotations.Statement.{statement}
 use Rattle.container.proofs.parts.annotations.Tie as tie
+use Rattle.container.proofs.parts.annotations.Reads as reads
+use Rattle.container.proofs.parts.annotations.Lts as lts
+use Rattle.container.proofs.format.format_of.Reads as format-of-reads
+use Rattle.container.proofs.header.open.Reads as open-reads
 
--- in the arm of a container that opened
+-- in the arm of a container that opened, with its format
 abbrev Past : Type 0
-Past = lts.After-known-told (open-reads.Asked, open-reads.Learnt) reads.Pre reads.Post
+Past = lts.After-format-of (open-reads.Asked, open-reads.Learnt, format-of-reads.Asked, format-of-reads.Learnt) reads.Pre reads.Post
 
-size : (c : Past) → Sized (now (c .before .before .before .before .before .args .bytes)) (c .before .header .given .0 .0)
-size c = sized (now (c .before .before .before .before .before .args .bytes)) (opened-by (c .before .before .before .«open» .ensures) (c .before .header .given .1))
+size : (c : Past) → Placed (now (c .before .before .before .before .before .before .args .bytes)) (c .before .before .header .given .0 .0) (c .format-of .result)
+size c = placed (now (c .before .before .before .before .before .before .args .bytes)) (opened-by (c .before .before .before .before .«open» .ensures) (c .before .before .header .given .1)) (c .format-of .ensures)
 
 open-requires : tie.Need-open-requires
 open-requires c κs = search needs
@@ -26,17 +28,20 @@ open-requires c κs = search needs
 enum-known-header : tie.Need-enum-known-header
 enum-known-header c = search needs
 
+format-of-requires : tie.Need-format-of-requires
+format-of-requires c κs = search needs
+
 mul-start : tie.Need-mul-start
-mul-start c = let z = size c in omega arith
+mul-start c = let z = size c in record { fits = omega (arith, z .few) }
 
 add-start : tie.Need-add-start
-add-start c = let z = size c in omega arith
+add-start c = let z = size (c .before) in omega (arith, z .words-end)
 
 mul-end : tie.Need-mul-end
-mul-end c = let z = size c in omega arith
+mul-end c = let z = size (c .before .before) in omega (arith, z .annotations-end)
 
 add-end : tie.Need-add-end
-add-end c = let z = size c in omega arith
+add-end c = let z = size (c .before .before) in omega (arith, z .annotations-end)
 
 sub-result : tie.Need-sub-result
 sub-result c = search needs
@@ -45,17 +50,17 @@ part-result-start : tie.Need-part-result-start
 part-result-start c = search needs
 
 part-result-end : tie.Need-part-result-end
-part-result-end c = let z = size c in omega arith
+part-result-end c = let z = size (c .before .before) in omega (arith, z .annotations-end)
 
 returns : tie.Need-returns
 returns c =
-    let b = c .before .before .before .before .before .before .args .bytes in
-    let n = c .before .before .header .given .0 .0 .count in
-    let start = annotations-start n in
-    rw (opened-by (c .before .before .before .before .«open» .ensures) (c .before .before .header .given .1))
+    let b = c .before .before .before .before .before .before .before .before .before .args .bytes in
+    let h = c .before .before .before .before .before .header .given .0 .0 in
+    let start = annotations-start (h .version) (h .count) in
+    rw (opened-by (c .before .before .before .before .before .before .before .«open» .ensures) (c .before .before .before .before .before .header .given .1), c .before .before .before .format-of .ensures)
     record {
       place = ap (λ (k : ℕ). (b .ptr .0, k)) (add-comm start (b .ptr .1));
-      contents = ap (λ (k : ℕ). take k (drop start (now b))) (add-sub-cancel-left start (annotation-length * n));
+      contents = ap (λ (k : ℕ). take k (drop start (now b))) (add-sub-cancel-left start (annotation-length (h .version) * h .count));
     }
 
 enum-told : tie.Need-enum-told
@@ -76,6 +81,7 @@ annotations-spec =
     (tie.spec
     open-requires
     enum-known-header
+    format-of-requires
     mul-start
     add-start
     mul-end

@@ -6,8 +6,6 @@ use Rattle.diff.specs.served.Cursor.{differing-from}
 use Rattle.diff.proofs.ScanLaws.{skips, stays, passes-end}
 use Rattle.diff.proofs.cursor.differing.Statement.{statement}
 use Rattle.diff.proofs.cursor.differing.Tie as tie
-use Rattle.diff.proofs.cursor.differing.Reads as reads
-use Rattle.diff.proofs.cursor.differing.Lts as lts
 
 abbrev Inv-loop : tie.InvT-loop
 Inv-loop xs ys from f₀ f = differing-from xs ys from ≡ differing-from xs ys f

@@ -7,9 +7,6 @@ use Rattle.diff.specs.declared.cursor.Step.the-variants.{Told}
 use borrow.Author.Needs.{needs}
 use Rattle.diff.proofs.cursor.tell.Statement.{statement}
 use Rattle.diff.proofs.cursor.tell.Tie as tie
-use Rattle.diff.proofs.cursor.tell.Reads as reads
-use Rattle.diff.proofs.cursor.tell.Lts as lts
-use Rattle.differences.proofs.line.field.Reads as field-reads
 
 field-requires : tie.Need-field-requires
 field-requires c κs = search needs

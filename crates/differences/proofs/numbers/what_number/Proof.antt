@@ -6,8 +6,6 @@ use Rattle.differences.specs.Numbers.{what-number}
 use borrow.Author.Needs.{needs}
 use Rattle.differences.proofs.numbers.what_number.Statement.{statement}
 use Rattle.differences.proofs.numbers.what_number.Tie as tie
-use Rattle.differences.proofs.numbers.what_number.Reads as reads
-use Rattle.differences.proofs.numbers.what_number.Lts as lts
 
 -- the number of what it is, where that is below 2^16
 whole : {w v : What} {r : ℕ} → w ≡ v → r ≡ what-number v → r < 65536 → (r ≡ what-number w) × (r < 65536)
@@ -55,11 +53,32 @@ enum-told-5 c = search needs
 enum-told-6 : tie.Need-enum-told-6
 enum-told-6 c = search needs
 
+enum-known-what-3 : tie.Need-enum-known-what-3
+enum-known-what-3 c = search needs
+
+cast-result-3 : tie.Need-cast-result-3
+cast-result-3 c = search needs
+
+mul-result-3 : tie.Need-mul-result-3
+mul-result-3 c = search needs
+
+add-result-3 : tie.Need-add-result-3
+add-result-3 c = search needs
+
+enum-known-what-4 : tie.Need-enum-known-what-4
+enum-known-what-4 c = search needs
+
+cast-result-4 : tie.Need-cast-result-4
+cast-result-4 c = search needs
+
+mul-result-4 : tie.Need-mul-result-4
+mul-result-4 c = search needs
+
+add-result-4 : tie.Need-add-result-4
+add-result-4 c = search needs
+
 enum-told-7 : tie.Need-enum-told-7
 enum-told-7 c = search needs
-
-enum-told-8 : tie.Need-enum-told-8
-enum-told-8 c = search needs
 
 returns : tie.Need-returns
 returns c = search needs
@@ -86,10 +105,13 @@ returns-8 : tie.Need-returns-8
 returns-8 c = search needs
 
 returns-9 : tie.Need-returns-9
-returns-9 c = search needs
+returns-9 c = whole (c .before .what3 .given .1) refl (omega arith)
 
 returns-10 : tie.Need-returns-10
-returns-10 c = search needs
+returns-10 c = whole (c .before .what4 .given .1) refl (omega arith)
+
+returns-11 : tie.Need-returns-11
+returns-11 c = search needs
 
 pub what-number-spec : {M : Type 1} → statement M
 what-number-spec =
@@ -109,8 +131,15 @@ what-number-spec =
     add-result-2
     enum-told-5
     enum-told-6
+    enum-known-what-3
+    cast-result-3
+    mul-result-3
+    add-result-3
+    enum-known-what-4
+    cast-result-4
+    mul-result-4
+    add-result-4
     enum-told-7
-    enum-told-8
     returns
     returns-2
     returns-3
@@ -120,4 +149,5 @@ what-number-spec =
     returns-7
     returns-8
     returns-9
-    returns-10)
+    returns-10
+    returns-11)

@@ -1,16 +1,12 @@
 use mir.Syntax.{w32}
 use mir.Facts.{toZ-ofZ}
-use mathlib.Core.Path.{_≡_, sym, ap, _∙_}
+use mathlib.Core.Path.{sym, ap, _∙_}
 use mathlib.Core.Bool.{Bool}
 use Rattle.bits.specs.Fields.{choose}
 use Rattle.record.specs.Instructions.{offset-number}
 use borrow.Author.Needs.{needs}
 use Rattle.diffparts.proofs.contents.at_bit_8.Statement.{statement}
 use Rattle.diffparts.proofs.contents.at_bit_8.Tie as tie
-use Rattle.diffparts.proofs.contents.at_bit_8.Reads as reads
-use Rattle.diffparts.proofs.contents.at_bit_8.Lts as lts
-use Rattle.record.proofs.instruction.Instruction.branches.Reads as branches-reads
-use Rattle.record.proofs.offset.offset_number.Reads as offset-number-reads
 
 branches-requires : tie.Need-branches-requires
 branches-requires c κs = search needs

@@ -1,8 +1,6 @@
 use Rattle.differences.proofs.LineLaws.{no-line, one-line}
 use Rattle.diffparts.proofs.single.compare.Statement.{statement}
 use Rattle.diffparts.proofs.single.compare.Tie as tie
-use Rattle.diffparts.proofs.single.compare.Reads as reads
-use Rattle.diffparts.proofs.single.compare.Lts as lts
 
 returns : tie.Need-returns
 returns c = no-line (c .before .args .what) (c .before .args .index) (c .if1 .taken)

@@ -87,20 +87,23 @@ slice-aggregate-put-extra-2 c = search needs
 put-extra-requires-2 : tie.Need-put-extra-requires-2
 put-extra-requires-2 c κs = search needs
 
-enum-told-7 : tie.Need-enum-told-7
-enum-told-7 c = search needs
+enum-known-what-3 : tie.Need-enum-known-what-3
+enum-known-what-3 c = search needs
 
 put-entry-requires : tie.Need-put-entry-requires
 put-entry-requires c κs = search needs
 
-enum-told-8 : tie.Need-enum-told-8
-enum-told-8 c = search needs
+enum-known-what-4 : tie.Need-enum-known-what-4
+enum-known-what-4 c = search needs
 
-slice-aggregate-put-field-4 : tie.Need-slice-aggregate-put-field-4
-slice-aggregate-put-field-4 c = search needs
+put-note-requires : tie.Need-put-note-requires
+put-note-requires c κs = search needs
 
-put-field-requires-4 : tie.Need-put-field-requires-4
-put-field-requires-4 c κs = search needs
+enum-told-7 : tie.Need-enum-told-7
+enum-told-7 c = search needs
+
+put-version-requires : tie.Need-put-version-requires
+put-version-requires c κs = search needs
 
 same-length : tie.Need-same-length
 same-length c = search needs
@@ -165,14 +168,19 @@ same-length-9 : tie.Need-same-length-9
 same-length-9 c = search needs
 
 returns-9 : tie.Need-returns-9
-returns-9 c = as-told _ _ _ (c .before .before .before .before .enum-told7 .given .1) (c .before .before .put-entry .ensures)
+returns-9 c = as-told _ _ _ (c .before .before .before .before .before .what3 .given .1) (c .before .before .put-entry .ensures)
 
 same-length-10 : tie.Need-same-length-10
 same-length-10 c = search needs
 
 returns-10 : tie.Need-returns-10
-unfolding ascii
-returns-10 c = as-told _ _ _ (c .before .before .before .before .before .enum-told8 .given .1) (c .before .before .put-field4 .ensures)
+returns-10 c = as-told _ _ _ (c .before .before .before .before .before .what4 .given .1) (c .before .before .put-note .ensures)
+
+same-length-11 : tie.Need-same-length-11
+same-length-11 c = search needs
+
+returns-11 : tie.Need-returns-11
+returns-11 c = as-told _ _ _ (c .before .before .before .before .enum-told7 .given .1) (c .before .before .put-version .ensures)
 
 pub put-told-spec : {M : Type 1} → statement M
 put-told-spec =
@@ -202,11 +210,12 @@ put-told-spec =
     enum-told-6
     slice-aggregate-put-extra-2
     put-extra-requires-2
-    enum-told-7
+    enum-known-what-3
     put-entry-requires
-    enum-told-8
-    slice-aggregate-put-field-4
-    put-field-requires-4
+    enum-known-what-4
+    put-note-requires
+    enum-told-7
+    put-version-requires
     same-length
     returns
     same-length-2
@@ -226,4 +235,6 @@ put-told-spec =
     same-length-9
     returns-9
     same-length-10
-    returns-10)
+    returns-10
+    same-length-11
+    returns-11)

@@ -1,4 +1,4 @@
-use mathlib.Core.Path.{_≡_, ap, _∙_}
+use mathlib.Core.Path.{_∙_}
 use native.Mathlib.Omega.{arith}
 use denote.Ref.{now}
 use Rattle.text.proofs.TextLaws.{put-next, same-text}
@@ -10,8 +10,8 @@ use Rattle.show.proofs.program.put_entry.Tie as tie
 number-at-requires : tie.Need-number-at-requires
 number-at-requires c κs = search needs
 
-number-at-requires-2 : tie.Need-number-at-requires-2
-number-at-requires-2 c κs = search needs
+annotation-at-requires : tie.Need-annotation-at-requires
+annotation-at-requires c κs = search needs
 
 element-copy-out-put-line : tie.Need-element-copy-out-put-line
 element-copy-out-put-line c = search needs
@@ -27,8 +27,8 @@ returns c =
     let a = c .before .before .before .before .before .before .before .before .before .before .before .before .args in
     let p = c .before .before .before .put-line .ensures in
     let m = mark-tells (now (a .words)) (a .n) (a .i) (c .before .before .before .before .before .before .before .before .before .before .before .before .pre .0) (c .before .before .before .before .before .before .before .before .before .before .before .before .pre .1 .few) (c .before .before .before .before .before .before .before .before .before .before .before .before .pre .5) in
-    let s = same-line (now (a .words)) (now (a .notes)) (a .n) (a .width) (a .faulty) (now (a .fault)) (a .i) m (c .before .before .before .before .before .before .before .number-at .ensures) (c .before .before .before .before .before .before .number-at2 .ensures) in
-    (same-text (s ∙ not-here (now (a .words)) (now (a .notes)) (a .n) (a .width) (a .faulty) (now (a .fault)) (a .i) (c .if1 .taken)) (p .0), omega (arith, p .1))
+    let s = same-line (a .version) (now (a .words)) (now (a .notes)) (a .n) (a .width) (a .faulty) (now (a .fault)) (a .i) m (c .before .before .before .before .before .before .before .number-at .ensures) (c .before .before .before .before .before .before .annotation-at .ensures) in
+    (same-text (s ∙ not-here (a .version) (now (a .words)) (now (a .notes)) (a .n) (a .width) (a .faulty) (now (a .fault)) (a .i) (c .if1 .taken)) (p .0), omega (arith, p .1))
 
 sub-put-text : tie.Need-sub-put-text
 sub-put-text c = search needs
@@ -54,15 +54,15 @@ returns-2 c =
     let p = c .before .before .before .before .before .before .before .put-line .ensures in
     let q = c .before .before .put-text .ensures in
     let m = mark-tells (now (a .words)) (a .n) (a .i) (c .before .before .before .before .before .before .before .before .before .before .before .before .before .before .before .before .pre .0) (c .before .before .before .before .before .before .before .before .before .before .before .before .before .before .before .before .pre .1 .few) (c .before .before .before .before .before .before .before .before .before .before .before .before .before .before .before .before .pre .5) in
-    let s = same-line (now (a .words)) (now (a .notes)) (a .n) (a .width) (a .faulty) (now (a .fault)) (a .i) m (c .before .before .before .before .before .before .before .before .before .before .before .number-at .ensures) (c .before .before .before .before .before .before .before .before .before .before .number-at2 .ensures) in
-    (same-text (here (now (a .words)) (now (a .notes)) (a .n) (a .width) (a .faulty) (now (a .fault)) (a .i) (c .before .before .before .before .if1 .left)) (put-next (same-text s (p .0)) q), omega (arith, p .1, q .counts, c .before .before .before .before .before .before .before .before .before .before .before .before .before .before .before .before .pre .4))
+    let s = same-line (a .version) (now (a .words)) (now (a .notes)) (a .n) (a .width) (a .faulty) (now (a .fault)) (a .i) m (c .before .before .before .before .before .before .before .before .before .before .before .number-at .ensures) (c .before .before .before .before .before .before .before .before .before .before .annotation-at .ensures) in
+    (same-text (here (a .version) (now (a .words)) (now (a .notes)) (a .n) (a .width) (a .faulty) (now (a .fault)) (a .i) (c .before .before .before .before .if1 .left)) (put-next (same-text s (p .0)) q), omega (arith, p .1, q .counts, c .before .before .before .before .before .before .before .before .before .before .before .before .before .before .before .before .pre .4))
 
 pub put-entry-spec : {M : Type 1} → statement M
 put-entry-spec =
     tie.close
     (tie.spec
     number-at-requires
-    number-at-requires-2
+    annotation-at-requires
     element-copy-out-put-line
     put-line-requires
     same-length

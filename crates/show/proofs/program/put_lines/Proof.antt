@@ -1,5 +1,5 @@
 use mathlib.Core.Path.{_≡_, refl, ap}
-use Prim.Native.Nat.{ℕ, _+_, _*_, _-_, _≤_}
+use Prim.Native.Nat.{_+_, _*_, _-_, _≤_}
 use native.Mathlib.Omega.{arith}
 use lib.ListN.{length, length-take, length-drop}
 use denote.Ref.{now}
@@ -12,15 +12,15 @@ use Rattle.show.proofs.program.put_lines.Statement.{statement}
 use Rattle.show.proofs.program.put_lines.Tie as tie
 
 abbrev Inv-loop : tie.InvT-loop
-Inv-loop marks words notes n width faulty fault out₀ at₀ i₀ out at i = (i ≤ n) × (at ≤ (longest-line + longest-fault) * i) × (length out ≡ length out₀) × Put (lines words notes n width faulty fault i) out₀ out at
+Inv-loop version marks words notes n width faulty fault out₀ at₀ i₀ out at i = (i ≤ n) × (at ≤ (longest-line + longest-fault) * i) × (length out ≡ length out₀) × Put (lines version words notes n width faulty fault i) out₀ out at
 
 abbrev μ-loop : tie.MeasureT-loop
-μ-loop marks words notes n width faulty fault out₀ at₀ i₀ out at i = n - i
+μ-loop version marks words notes n width faulty fault out₀ at₀ i₀ out at i = n - i
 
 loop-holds : tie.Need-loop-holds Inv-loop μ-loop
 loop-holds c =
     let a = c .before .before .before .before .args in
-    (omega arith, omega arith, refl, no-lines (now (a .words)) (now (a .notes)) (a .n) (a .width) (a .faulty) (now (a .fault)) (now (a .out)))
+    (omega arith, omega arith, refl, no-lines (a .version) (now (a .words)) (now (a .notes)) (a .n) (a .width) (a .faulty) (now (a .fault)) (now (a .out)))
 
 sub-put-entry : tie.Need-sub-put-entry Inv-loop μ-loop
 sub-put-entry c = omega arith
@@ -49,7 +49,7 @@ loop-again : tie.Need-loop-again Inv-loop μ-loop
 loop-again c =
     let a = c .before .before .before .before .before .before .before .before .before .before .args in
     let l = c .before .before .before .before .before .loop in
-    (omega arith, omega (arith, c .before .before .put-entry .ensures .1), omega arith, same-text (line-more (now (a .words)) (now (a .notes)) (a .n) (a .width) (a .faulty) (now (a .fault)) (l .i)) (put-next (l .inv .3) (c .before .before .put-entry .ensures .0)))
+    (omega arith, omega (arith, c .before .before .put-entry .ensures .1), omega arith, same-text (line-more (a .version) (now (a .words)) (now (a .notes)) (a .n) (a .width) (a .faulty) (now (a .fault)) (l .i)) (put-next (l .inv .3) (c .before .before .put-entry .ensures .0)))
 
 same-length : tie.Need-same-length Inv-loop μ-loop
 same-length c = omega arith
@@ -59,7 +59,7 @@ returns c =
     let l = c .before .loop in
     let a = c .before .before .before .before .before .before .args in
     let e : l .i ≡ a .n = omega arith in
-    (same-text (ap (lines (now (a .words)) (now (a .notes)) (a .n) (a .width) (a .faulty) (now (a .fault))) e) (l .inv .3), omega arith)
+    (same-text (ap (lines (a .version) (now (a .words)) (now (a .notes)) (a .n) (a .width) (a .faulty) (now (a .fault))) e) (l .inv .3), omega arith)
 
 pub put-lines-spec : {M : Type 1} → statement M
 put-lines-spec =

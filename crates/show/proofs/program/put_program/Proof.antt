@@ -1,6 +1,6 @@
-use mathlib.Core.Path.{_≡_, sym, ap, _∙_}
+use mathlib.Core.Path.{sym}
 use native.Mathlib.Omega.{arith}
-use lib.ListN.{length, length-take, length-drop}
+use lib.ListN.{length-take, length-drop}
 use lib.Seq.{length-take-le}
 use denote.Ref.{now}
 use Rattle.safety.specs.Verdict.{verdict-outcome}
@@ -75,7 +75,7 @@ returns c =
     let t = c .before .before .before .before .before .before .before .before .before .before .before .before .before .put-title .ensures in
     let l = c .before .before .before .before .before .before .put-lines .ensures in
     let b = c .before .before .put-byte .ensures in
-    let e = programmed (now (a .words)) (now (a .notes)) (a .n) (verdict-outcome (a .v)) (c .before .before .before .before .before .before .before .before .before .before .before .before .before .before .before .widest .ensures .0) (c .before .before .before .before .before .before .before .before .before .fault-index .ensures) (put-front (c .before .before .before .before .before .before .before .before .before .before .before .before .before .before .before .before .before .before .put-fault .ensures .0)) in
+    let e = programmed (a .version) (now (a .words)) (now (a .notes)) (a .n) (verdict-outcome (a .v)) (c .before .before .before .before .before .before .before .before .before .before .before .before .before .before .before .widest .ensures .0) (c .before .before .before .before .before .before .before .before .before .fault-index .ensures) (put-front (c .before .before .before .before .before .before .before .before .before .before .before .before .before .before .before .before .before .before .put-fault .ensures .0)) in
     (same-text e (put-next (put-next (t .0) (l .0)) b), omega (arith, t .1, l .1, b .counts))
 
 pub put-program-spec : {M : Type 1} → statement M

@@ -7,8 +7,6 @@ use Rattle.sweeps.specs.served.Plan.{narrow-at}
 use borrow.Author.Needs.{needs}
 use Rattle.sweeps.proofs.sweeps.narrow.Statement.{statement}
 use Rattle.sweeps.proofs.sweeps.narrow.Tie as tie
-use Rattle.sweeps.proofs.sweeps.narrow.Reads as reads
-use Rattle.sweeps.proofs.sweeps.narrow.Lts as lts
 
 mul-notes : tie.Need-mul-notes
 mul-notes c = search needs

@@ -1,87 +1,66 @@
-use borrow.Author.Tests.{not-true, not-false}
-use mathlib.Core.Path.{_≡_, refl, sym, ap, _∙_}
-use Prim.Native.Nat.{ℕ, _≤_, _-_}
+use mathlib.Core.Path.{sym, _∙_}
 use native.Mathlib.Omega.{arith}
+use Rattle.bits.specs.Halves.{lower, upper}
+use Rattle.sweeps.proofs.LoopLaws.{low-enough, more-of-both}
 use borrow.Author.Needs.{needs}
-use denote.Ref.{now}
-use lib.ListN.{length}
-use Rattle.safety.specs.Program.{Program}
-use Rattle.sweeps.specs.served.Plan.{Begun}
-use Rattle.sweeps.proofs.LoopLaws.{Running, runs-first, within, goes-on, stops}
 use Rattle.sweeps.proofs.sweeps.rest.Statement.{statement}
 use Rattle.sweeps.proofs.sweeps.rest.Tie as tie
-use Rattle.sweeps.proofs.sweeps.rest.Reads as reads
-use Rattle.sweeps.proofs.sweeps.rest.Lts as lts
-use Rattle.sweeps.proofs.sweeps.settle.Reads as settle-reads
-use Rattle.sweeps.proofs.sweeps.sweep.Reads as sweep-reads
 
-abbrev Inv-loop : tie.InvT-loop
-Inv-loop kills defines falls jumps new₀ notes₀ k₀ new notes k = (k ≤ 2049) × (length new ≡ length notes₀) × (length notes ≡ length notes₀) × ((p : Program) → Begun p kills defines falls jumps new₀ notes₀ → Running p new notes k)
+rest-half-requires : tie.Need-rest-half-requires
+rest-half-requires c κs = search needs
 
-abbrev μ-loop : tie.MeasureT-loop
-μ-loop kills defines falls jumps new₀ notes₀ k₀ new notes k = 2049 - k
-
-loop-holds : tie.Need-loop-holds Inv-loop μ-loop
-loop-holds c = (search needs, search needs, search needs, λ p b. runs-first b)
-
-sweep-requires : tie.Need-sweep-requires Inv-loop μ-loop
-sweep-requires c κs = search needs
-
-settle-requires : tie.Need-settle-requires Inv-loop μ-loop
-settle-requires c κs = search needs
-
-add-result : tie.Need-add-result Inv-loop μ-loop
-add-result c = search needs
-
-same-length : tie.Need-same-length Inv-loop μ-loop
+same-length : tie.Need-same-length
 same-length c = search needs
 
-same-length-2 : tie.Need-same-length-2 Inv-loop μ-loop
+same-length-2 : tie.Need-same-length-2
 same-length-2 c = search needs
 
-returns : tie.Need-returns Inv-loop μ-loop
-returns c p b =
-    stops b (c .before .before .before .before .before .before .before .before .before .before .before .before .loop .inv .3 p b) (c .before .before .before .before .before .before .before .before .sweep .ensures) (c .before .before .before .settle .ensures .1) (not-true _ (c .if1 .taken)) (c .before .before .before .settle .ensures .0)
+returns : tie.Need-returns
+returns c p e b = low-enough b (e ∙ c .if1 .taken) (c .before .before .before .before .before .rest-half .ensures p lower (b .low)) _
 
-add-k : tie.Need-add-k Inv-loop μ-loop
-add-k c = search needs
+rest-half-requires-2 : tie.Need-rest-half-requires-2
+rest-half-requires-2 c κs = search needs
 
-loop-less : tie.Need-loop-less Inv-loop μ-loop
-loop-less c = search needs
-
-loop-again : tie.Need-loop-again Inv-loop μ-loop
-loop-again c = (
-  search needs,
-  search needs,
-  search needs,
-  λ p b. goes-on b (c .before .before .before .before .before .before .before .before .before .before .before .before .loop .inv .3 p b) (c .before .before .before .before .before .before .before .before .sweep .ensures) (c .before .before .before .settle .ensures .1) (not-false _ (c .if1 .left)) (c .before .before .before .settle .ensures .0),
-)
-
-same-length-3 : tie.Need-same-length-3 Inv-loop μ-loop
+same-length-3 : tie.Need-same-length-3
 same-length-3 c = search needs
 
-same-length-4 : tie.Need-same-length-4 Inv-loop μ-loop
+same-length-4 : tie.Need-same-length-4
 same-length-4 c = search needs
 
-returns-2 : tie.Need-returns-2 Inv-loop μ-loop
-returns-2 c p b = absurd (omega (arith, within b (c .before .loop .inv .3 p b)))
+same-length-5 : tie.Need-same-length-5
+same-length-5 c = search needs
+
+returns-2 : tie.Need-returns-2
+returns-2 c p e b =
+    more-of-both b (λ z. c .before .before .before .before .before .before .before .before .if1 .left (sym e ∙ z)) (c .before .before .before .before .before .before .before .before .before .before .before .before .before .rest-half .ensures p lower (b .low)) (c .before .before .before .before .before .rest-half2 .ensures p upper (b .high)) (omega arith)
+
+same-length-6 : tie.Need-same-length-6
+same-length-6 c = search needs
+
+same-length-7 : tie.Need-same-length-7
+same-length-7 c = search needs
+
+same-length-8 : tie.Need-same-length-8
+same-length-8 c = search needs
+
+returns-3 : tie.Need-returns-3
+returns-3 c p e b =
+    more-of-both b (λ z. c .before .before .before .before .before .before .before .before .if1 .left (sym e ∙ z)) (c .before .before .before .before .before .before .before .before .before .before .before .before .before .rest-half .ensures p lower (b .low)) (c .before .before .before .before .before .rest-half2 .ensures p upper (b .high)) (omega arith)
 
 pub rest-spec : {M : Type 1} → statement M
 rest-spec =
     tie.close
     (tie.spec
-    Inv-loop
-    μ-loop
-    loop-holds
-    sweep-requires
-    settle-requires
-    add-result
+    rest-half-requires
     same-length
     same-length-2
     returns
-    add-k
-    loop-less
-    loop-again
+    rest-half-requires-2
     same-length-3
     same-length-4
-    returns-2)
+    same-length-5
+    returns-2
+    same-length-6
+    same-length-7
+    same-length-8
+    returns-3)

@@ -1,25 +1,21 @@
 use Rattle.bits.specs.Sets.{minus, union}
 use borrow.Author.Needs.{needs}
-use mathlib.Core.Path.{_≡_, refl, sym, ap, ap₂, _∙_}
+use mathlib.Core.Path.{_≡_, ap, ap₂, _∙_}
 use mathlib.Core.List.{List}
 use Prim.Native.Nat.{ℕ, _≤_, _-_}
 use native.Mathlib.Omega.{arith}
 use denote.Ref.{now}
 use lib.ListN.{length, getD}
-use Rattle.sweeps.specs.served.Plan.{narrow-at, left-by, swept-list}
+use Rattle.sweeps.specs.served.Plan.{narrow-at, swept-list}
 use Rattle.sweeps.proofs.PlanLaws.{length-swept, swept-none, swept-more}
 use Rattle.sweeps.proofs.sweeps.sweep.Statement.{statement}
 use Rattle.sweeps.proofs.sweeps.sweep.Tie as tie
-use Rattle.sweeps.proofs.sweeps.sweep.Reads as reads
-use Rattle.sweeps.proofs.sweeps.sweep.Lts as lts
-use Rattle.bits.proofs.sets.missing.Reads as missing-reads
-use Rattle.sweeps.proofs.sweeps.narrow.Reads as narrow-reads
 
 abbrev Inv-loop : tie.InvT-loop
-Inv-loop kills defines falls jumps old new₀ i₀ new i = (i ≤ length old) × (new ≡ swept-list kills defines falls jumps old new₀ i)
+Inv-loop kills fills falls jumps old new₀ i₀ new i = (i ≤ length old) × (new ≡ swept-list kills fills falls jumps old new₀ i)
 
 abbrev μ-loop : tie.MeasureT-loop
-μ-loop kills defines falls jumps old new₀ i₀ new i = length old - i
+μ-loop kills fills falls jumps old new₀ i₀ new i = length old - i
 
 loop-holds : tie.Need-loop-holds Inv-loop μ-loop
 loop-holds c = (search needs, swept-none _ _ _ _ _ _)
@@ -76,21 +72,21 @@ loop-again c =
     let h : c .before .before .before .before .before .before .before .before .before .before .before .missing .result ≡ minus (getD (now (a .old)) (l .i) 0) (getD (now (a .kills)) (l .i) 0) = c .before .before .before .before .before .before .before .before .before .before .before .missing .ensures in (
       search needs,
       c .before .before .narrow2 .ensures
-          ∙ ap₂ (λ (x : List ℕ) (m : ℕ). narrow-at x (getD (now (a .jumps)) (l .i) 0) (union m (getD (now (a .defines)) (l .i) 0)))
-          (c .before .before .before .before .before .before .before .narrow .ensures ∙ ap₂ (λ (x : List ℕ) (m : ℕ). narrow-at x (getD (now (a .falls)) (l .i) 0) (union m (getD (now (a .defines)) (l .i) 0))) (l .inv .1) h) h
-          ∙ swept-more (now (a .kills)) (now (a .defines)) (now (a .falls)) (now (a .jumps)) (now (a .old)) (now (a .new)) (l .i),
+          ∙ ap₂ (λ (x : List ℕ) (m : ℕ). narrow-at x (getD (now (a .jumps)) (l .i) 0) (union m (getD (now (a .fills)) (l .i) 0)))
+          (c .before .before .before .before .before .before .before .narrow .ensures ∙ ap₂ (λ (x : List ℕ) (m : ℕ). narrow-at x (getD (now (a .falls)) (l .i) 0) (union m (getD (now (a .fills)) (l .i) 0))) (l .inv .1) h) h
+          ∙ swept-more (now (a .kills)) (now (a .fills)) (now (a .falls)) (now (a .jumps)) (now (a .old)) (now (a .new)) (l .i),
     )
 
 same-length : tie.Need-same-length Inv-loop μ-loop
 same-length c =
     let a = c .before .before .before .before .before .before .before .before .args in
-    rw (c .before .loop .inv .1) (length-swept (now (a .kills)) (now (a .defines)) (now (a .falls)) (now (a .jumps)) (now (a .old)) (now (a .new)) (c .before .loop .i))
+    rw (c .before .loop .inv .1) (length-swept (now (a .kills)) (now (a .fills)) (now (a .falls)) (now (a .jumps)) (now (a .old)) (now (a .new)) (c .before .loop .i))
 
 returns : tie.Need-returns Inv-loop μ-loop
 returns c =
     let a = c .before .before .before .before .before .before .before .before .args in
     let e : c .before .loop .i ≡ length (now (a .old)) = omega arith in
-    c .before .loop .inv .1 ∙ ap (swept-list (now (a .kills)) (now (a .defines)) (now (a .falls)) (now (a .jumps)) (now (a .old)) (now (a .new))) e
+    c .before .loop .inv .1 ∙ ap (swept-list (now (a .kills)) (now (a .fills)) (now (a .falls)) (now (a .jumps)) (now (a .old)) (now (a .new))) e
 
 pub sweep-spec : {M : Type 1} → statement M
 sweep-spec =

@@ -1,4 +1,4 @@
-use mathlib.Core.Path.{_≡_, sym, ap, _∙_}
+use mathlib.Core.Path.{sym, ap, _∙_}
 use Prim.Native.Nat.{_≤_, _-_}
 use native.Mathlib.Omega.{arith}
 use denote.Ref.{now}
@@ -8,21 +8,15 @@ use Rattle.safety.specs.Verdict.{verdict-outcome}
 use Rattle.safety.proofs.PassLaws.{Passed, starts, turns, fails, passed-all, read-on, unread}
 use Rattle.verifier.proofs.program.judge_instructions.Statement.{statement}
 use Rattle.verifier.proofs.program.judge_instructions.Tie as tie
-use Rattle.verifier.proofs.program.judge_instructions.Reads as reads
-use Rattle.verifier.proofs.program.judge_instructions.Lts as lts
-use Rattle.flow.proofs.judge_flow.Reads as judge-flow-reads
-use Rattle.verifier.proofs.program.reading_at.Reads as reading-at-reads
-use Rattle.verifier.proofs.program.unreadable_from.Reads as unreadable-from-reads
-use Rattle.safety.proofs.verdict.refused.Reads as refused-reads
 
 abbrev Inv-loop : tie.InvT-loop
-Inv-loop words annotations n i₀ i = (i ≤ n) × Passed words annotations n i
+Inv-loop version words annotations n i₀ i = (i ≤ n) × Passed version words annotations n i
 
 abbrev μ-loop : tie.MeasureT-loop
-μ-loop words annotations n i₀ i = n - i
+μ-loop version words annotations n i₀ i = n - i
 
 loop-holds : tie.Need-loop-holds Inv-loop μ-loop
-loop-holds c = let a = c .before .before .args in (omega arith, starts (now (a .words)) (now (a .annotations)) (a .n))
+loop-holds c = let a = c .before .before .args in (omega arith, starts (a .version) (now (a .words)) (now (a .annotations)) (a .n))
 
 reading-at-requires : tie.Need-reading-at-requires Inv-loop μ-loop
 reading-at-requires c κs = search needs
@@ -48,7 +42,7 @@ unreadable-from-requires c κs = let a = c .before .before .before .before .befo
 returns : tie.Need-returns Inv-loop μ-loop
 returns c =
     let a = c .before .before .before .before .before .before .before .before .before .before .before .before .before .args in
-    fails (now (a .words)) (now (a .annotations)) (a .n) (c .before .before .before .before .before .before .before .before .before .before .loop .inv .1) (ap reading (sym (c .before .before .before .before .before .before .r .given .1)) ∙ c .before .before .before .before .before .before .before .before .reading-at .ensures) (c .before .before .before .before .before .before .before .before .before .loop-test .taken) (c .before .before .before .before .judge-flow .ensures)
+    fails (a .version) (now (a .words)) (now (a .annotations)) (a .n) (c .before .before .before .before .before .before .before .before .before .before .loop .inv .1) (ap reading (sym (c .before .before .before .before .before .before .r .given .1)) ∙ c .before .before .before .before .before .before .before .before .reading-at .ensures) (c .before .before .before .before .before .before .before .before .before .loop-test .taken) (c .before .before .before .before .judge-flow .ensures)
     (ap verdict-outcome (c .before .before .v .given .1)) (c .unreadable-from .ensures)
 
 enum-known-r-2 : tie.Need-enum-known-r-2 Inv-loop μ-loop
@@ -71,12 +65,12 @@ loop-less c = search needs
 loop-again : tie.Need-loop-again Inv-loop μ-loop
 loop-again c =
     let a = c .before .before .before .before .before .before .before .before .before .before .before .args in
-    (search needs, turns (now (a .words)) (now (a .annotations)) (a .n) (c .before .before .before .before .before .before .before .before .loop .inv .1) (ap reading (sym (c .before .before .before .before .r .given .1)) ∙ c .before .before .before .before .before .before .reading-at .ensures) (c .before .before .judge-flow .ensures) (ap verdict-outcome (c .enum-told .given .1)))
+    (search needs, turns (a .version) (now (a .words)) (now (a .annotations)) (a .n) (c .before .before .before .before .before .before .before .before .loop .inv .1) (ap reading (sym (c .before .before .before .before .r .given .1)) ∙ c .before .before .before .before .before .before .reading-at .ensures) (c .before .before .judge-flow .ensures) (ap verdict-outcome (c .enum-told .given .1)))
 
 returns-3 : tie.Need-returns-3 Inv-loop μ-loop
 returns-3 c =
     let a = c .before .before .before .before .args in
-    passed-all (now (a .words)) (now (a .annotations)) (a .n) (c .before .loop .inv .1) (omega arith)
+    passed-all (a .version) (now (a .words)) (now (a .annotations)) (a .n) (c .before .loop .inv .1) (omega arith)
 
 pub judge-instructions-spec : {M : Type 1} → statement M
 judge-instructions-spec =

@@ -1,17 +1,13 @@
-use mathlib.Core.Path.{_≡_, refl, ap, _∙_}
-use Prim.Native.Nat.{ℕ}
+use mathlib.Core.Path.{refl, ap, _∙_}
 use denote.Ref.{now}
-use Rattle.safety.specs.Verdict.{verdict-outcome, first, none-missing}
+use Rattle.bits.specs.declared.halves.Halves.{Halves}
+use Rattle.safety.specs.Program.{program-in}
+use Rattle.bits.specs.Outcomes.{first}
+use Rattle.safety.specs.Verdict.{verdict-outcome, none-missing}
 use Rattle.safety.proofs.PassLaws.{entered, barred}
 use borrow.Author.Needs.{needs}
 use Rattle.verifier.proofs.program.judge_words.Statement.{statement}
 use Rattle.verifier.proofs.program.judge_words.Tie as tie
-use Rattle.verifier.proofs.program.judge_words.Reads as reads
-use Rattle.verifier.proofs.program.judge_words.Lts as lts
-use Rattle.flow.proofs.annotation_at.Reads as annotation-at-reads
-use Rattle.verifier.proofs.program.judge_instructions.Reads as judge-instructions-reads
-use Rattle.verifier.proofs.program.unreadable_from.Reads as unreadable-from-reads
-use Rattle.safety.proofs.verdict.none_missing.Reads as none-missing-reads
 
 annotation-at-requires : tie.Need-annotation-at-requires
 annotation-at-requires c κs = search needs
@@ -35,12 +31,12 @@ unreadable-from-requires c κs = (c .before .before .before .before .before .bef
 returns : tie.Need-returns
 returns c =
     let a = c .before .before .before .before .before .before .before .args in
-    entered (now (a .words)) (now (a .annotations)) (a .n) (a .entry) (c .before .before .before .none-missing .ensures ∙ ap (λ (x : ℕ). none-missing 23 0 x (c .before .before .before .before .before .before .before .args .entry)) (c .before .before .before .before .annotation-at .ensures)) (ap verdict-outcome (c .before .enum-told .given .1)) (c .judge-instructions .ensures)
+    entered (now (a .words)) (program-in (a .version) (now (a .words)) (now (a .annotations)) (a .n) (a .entry)) (c .before .before .before .none-missing .ensures ∙ ap (λ (x : Halves). none-missing 23 0 x (c .before .before .before .before .before .before .before .args .entry)) (c .before .before .before .before .annotation-at .ensures)) (ap verdict-outcome (c .before .enum-told .given .1)) (c .judge-instructions .ensures)
 
 returns-2 : tie.Need-returns-2
 returns-2 c =
     let a = c .before .before .before .before .before .before .before .before .args in
-    barred (now (a .words)) (now (a .annotations)) (a .n) (a .entry) (c .before .before .before .before .none-missing .ensures ∙ ap (λ (x : ℕ). none-missing 23 0 x (c .before .before .before .before .before .before .before .before .args .entry)) (c .before .before .before .before .before .annotation-at .ensures)) (ap verdict-outcome (c .before .before .v .given .1)) (c .unreadable-from .ensures)
+    barred (now (a .words)) (program-in (a .version) (now (a .words)) (now (a .annotations)) (a .n) (a .entry)) (c .before .before .before .before .none-missing .ensures ∙ ap (λ (x : Halves). none-missing 23 0 x (c .before .before .before .before .before .before .before .before .args .entry)) (c .before .before .before .before .before .annotation-at .ensures)) (ap verdict-outcome (c .before .before .v .given .1)) (c .unreadable-from .ensures)
 
 pub judge-words-spec : {M : Type 1} → statement M
 judge-words-spec =

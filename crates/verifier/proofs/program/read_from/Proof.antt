@@ -3,10 +3,10 @@ use Prim.Native.Nat.{_≤_, _-_}
 use native.Mathlib.Omega.{arith}
 use denote.Ref.{now}
 use borrow.Author.Needs.{needs}
-use Rattle.bits.specs.Outcomes.{passes}
+use Rattle.bits.proofs.FirstLaws.{then-none}
+use Rattle.bits.specs.Outcomes.{passes, first}
 use Rattle.reader.specs.Answers.{reading}
-use Rattle.safety.specs.Verdict.{first, judge-word}
-use Rattle.safety.proofs.VerdictLaws.{then-none}
+use Rattle.safety.specs.Verdict.{judge-word}
 use Rattle.safety.proofs.PassLaws.{unread, read-on, ended}
 use Rattle.verifier.proofs.program.read_from.Statement.{statement}
 use Rattle.verifier.proofs.program.read_from.Tie as tie

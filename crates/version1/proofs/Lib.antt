@@ -1,0 +1,3 @@
+pub mod SameVerdict
+pub mod Demand3Met
+pub mod LazyChecks
