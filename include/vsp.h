@@ -24,9 +24,10 @@
  *
  * Every function is total: it returns for every input, allocates nothing, keeps no state
  * and touches no memory but the buffers it is given; calls from several threads are fine. A
- * pointer that comes with a length must be good for that many bytes, a form for 32; none is
- * null, even where the length is 0, and a buffer that is written to overlaps no other. Bytes
- * need no alignment; an array of uint64_t is aligned as every uint64_t is.
+ * pointer that comes with a length must be good for that many bytes, one that comes with a count
+ * for that many numbers, a form for 32 bytes; none is null, even where the length or the count is
+ * 0, and a buffer that is written to overlaps no other. Bytes need no alignment; an array of
+ * uint32_t or uint64_t is aligned as every such number is.
  *
  * Numbers of refusals; place is 0 but for 3, 6 and 7, and 14 and 15 are never given:
  *    1  a word to read that isn't 8 bytes long
@@ -56,6 +57,11 @@
  *   23  the first note names a register, in version 2 a half of one, that the entry set doesn't
  *       have
  *   24  with these words and this entry set no notes at all would be accepted in this version
+ *   30  from vsp_replay: it doesn't run the instruction, which is none of NOP, BRANCHZ, MOV.i32,
+ *       CLZ.u32, POPCOUNT.i32, BITREV.i32, NOT_OLD.i32, MUX.i32 and FADD.f32, or is a BRANCHZ with
+ *       a combine or an FADD.f32 with a widen, or writes one half, or has a special constant
+ *   31  from vsp_replay: the instruction has a uniform that the list of uniforms doesn't have
+ *   32  from vsp_replay: the trace isn't 64 numbers for each step
  *
  * The form, 32 bytes, of a decoded instruction:
  *    0       row, 0 to 76
@@ -116,6 +122,13 @@ extern "C" {
 /* From vsp_diff_line: the list has no such line. */
 #define VSP_FEWER 255
 
+/* From vsp_replay, as numbers: it came to the limit; a register isn't as in the trace. */
+#define VSP_REPLAY_LIMIT 254
+#define VSP_REPLAY_DIFFERS 255
+
+/* How many registers there are, and how many numbers a trace has for a step. */
+#define VSP_REGISTERS 64
+
 /* The numbers of a line of differences; no list has more lines than this; their numbers. */
 #define VSP_DIFF_LINE 3
 #define VSP_DIFF_LINES 49155
@@ -157,9 +170,9 @@ enum {
 
 /*
  * The parts of an answer, but for vsp_row_of, which gives a row; place, index, register and half
- * mean something only where the number isn't 0 (nor the answer VSP_FEWER), and the last three
- * aren't for vsp_read, vsp_write and vsp_fresh. vsp_text and vsp_name give a length, which has
- * none of these parts.
+ * mean something only where the number isn't 0 (nor the answer VSP_FEWER, nor the number
+ * VSP_REPLAY_LIMIT or VSP_REPLAY_DIFFERS), and the last three aren't for vsp_read, vsp_write and
+ * vsp_fresh. vsp_text and vsp_name give a length, which has none of these parts.
  */
 #define VSP_NUMBER(answer) ((unsigned)((answer) & 0xFF))
 #define VSP_PLACE(answer) ((unsigned)((answer) >> 8 & 0xFF))
@@ -171,6 +184,11 @@ enum {
 #define VSP_SWEEPS(answer) ((unsigned)((uint64_t)(answer) >> 16 & 0xFFFF))
 /* For vsp_diff_lines, where the number is 0. */
 #define VSP_LINES(answer) ((size_t)((uint64_t)(answer) >> 16))
+/* For vsp_replay, where the number is 0, VSP_REPLAY_LIMIT or VSP_REPLAY_DIFFERS: steps run. */
+#define VSP_STEPS(answer) ((uint32_t)((uint64_t)(answer) >> 16))
+/* For vsp_replay, where the number is VSP_REPLAY_DIFFERS: the step, from 0 on; the register. */
+#define VSP_REPLAY_STEP(answer) (VSP_STEPS(answer) - 1)
+#define VSP_REPLAY_REGISTER(answer) ((unsigned)((answer) >> 8 & 0xFF))
 /* For vsp_diff_line and vsp_diff_lines, where a parcel is refused: 1 the first, 2 the second. */
 #define VSP_PARCEL(answer) ((unsigned)((uint64_t)(answer) >> 48 & 0xFF))
 
@@ -368,6 +386,58 @@ uint64_t vsp_diff_line(const uint8_t *first, size_t first_length, const uint8_t 
  */
 uint64_t vsp_diff_lines(const uint8_t *first, size_t first_length, const uint8_t *second,
                         size_t second_length, uint64_t lines[VSP_DIFF_NUMBERS]);
+
+/*
+ * Runs the program of a parcel, in one thread, and compares the registers after each step with a
+ * trace, which is what a display recorded of its own run. It checks the parcel first, as
+ * vsp_check does, so that nothing need be known of it.
+ *
+ * The registers go in as they are before the first step, and are left as the last step that is
+ * run leaves them. Uniform k of the program is number k of the list, counted from 0. The trace
+ * has 64 numbers for each step: the registers after it, from r0 on. It may be shorter than the
+ * run, or empty: steps past its end aren't compared. It may be longer: the rest isn't looked at.
+ *
+ * A step is one instruction, from the first of the program on. What an instruction gives:
+ *    NOP           nothing
+ *    BRANCHZ       the way on: to where its offset leads if the source isn't 0, with eq if it is
+ *                  0, else to the next instruction
+ *    MOV.i32       the source's bits
+ *    CLZ.u32       how many bits of the source are above its highest 1; 32 if it is 0
+ *    POPCOUNT.i32  how many bits of the source are 1
+ *    BITREV.i32    the source's bits in reverse order
+ *    NOT_OLD.i32   the source's bits, each the other way round
+ *    MUX.i32       source 0 if source 2 is as mux says, else source 1: with neg if its highest
+ *                  bit is 1, with int_zero if it is 0, with fp_zero if it is 0 or 0x80000000;
+ *                  with bit each bit of source 0 where the same bit of source 2 is 1
+ *    FADD.f32      the sum of both sources as IEEE single-precision numbers, each made absolute
+ *                  first and then negated, where it says so; rounded once, to the nearest and
+ *                  ties to even, subnormal numbers too; then clamped: min(max(sum, low), high),
+ *                  where low and high are 0 and infinity, -1 and 1, or 0 and 1. That gives low
+ *                  for a not-a-number, and 0 for -0 where low is 0. A not-a-number that is left,
+ *                  for want of a clamp, is 0x7FC00000
+ * Of the flows only end acts; conservative doesn't; a register that is released keeps its number.
+ * No step reads a register that isn't held then, since the parcel is accepted; what the entry set
+ * names is the caller's to put into the registers.
+ *
+ * The run stops at the first step that leaves a register, held or not, other than the trace has
+ * it; else at the first instruction with flow end; else when as many steps are run as the limit
+ * says, none where it is 0. With how many steps were run it gives
+ *    VSP_REPLAY_DIFFERS + 2^8 register + 2^16 steps   for the first: the lowest such register;
+ *                                                     the step, counted from 0, is steps - 1
+ *    2^16 steps, so that the number is 0              for the second
+ *    VSP_REPLAY_LIMIT + 2^16 steps                    for the third
+ * Compared were as many of the steps as the trace has, if it has fewer, else all.
+ *
+ * Otherwise nothing is run: it gives number + 2^8 place + 2^16 index + 2^32 register + 2^40 half
+ * and leaves the registers as they were. The first refusal in this order: what vsp_check gives;
+ * 32, with index 0; 30 or 31 for the lowest instruction that has either, whether the run would
+ * come to it or not, and 30 if it has both. For 30, 31 and 32 the register is 64, without a half.
+ * Uses some 120 KB of stack.
+ */
+uint64_t vsp_replay(const uint8_t *parcel, size_t parcel_length,
+                    uint32_t registers[VSP_REGISTERS], const uint32_t *uniforms,
+                    size_t uniforms_count, const uint32_t *trace, size_t trace_count,
+                    uint32_t limit);
 
 #ifdef __cplusplus
 }

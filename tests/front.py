@@ -1,14 +1,17 @@
-"""What the shell front says about parcels, words and two parcels: which parcels to try it on, and what it must write on standard error.
+"""What the shell front says about parcels, words, two parcels and runs: which parcels to try it on, and what it must write on standard error.
 
     front.py parcels FOLDER               writes NAME.vsp, and NAME.out, what the lister must write
     front.py sentences PARCELS FOLDER     for each NAME.vsp in PARCELS writes FOLDER/NAME.err, the sentences
 
 Verdicts, places and entry sets are worked out from the papers (paper01.py)."""
+import collections
 import os
+import struct
 import sys
-from disassembly import reason, rows_of
-from paper01 import FORMATS, R0, check, count_in, difference_text, differences, halved, listing, opening, parcel, parts, registers_in, row_number, \
-    verdict_line, version_of, versioned, word
+from disassembly import reason, rows_of, text_of
+from machine import answer_line, replay
+from paper01 import BOTH, FORMATS, R0, check, count_in, difference_text, differences, halved, listing, opening, parcel, parts, registers_in, \
+    row_number, verdict_line, version_of, versioned, word
 
 A_END = 0x7891C10000000002  # MOV r1, r2, end
 B = 0x7800000000000000  # NOP, end
@@ -240,6 +243,131 @@ def comparison(first, second, names):
     [lines] = rest
     shared = min(len(parts(data)[1]) for data in (first, second))
     return int(bool(lines)), ''.join(difference_text(*line) for line in lines), f'vsp: {summary(lines, shared)}\n'
+
+
+# ---- replay
+
+# What a run says: the registers that it gives, by number; its uniforms, and which of them it leaves out, in words; its trace; its limit.
+Run = collections.namedtuple('Run', 'registers uniforms without trace limit', defaults=({}, [], '', [], 100))
+
+
+def many(count, thing):
+    return f'{count} {thing}{"" if count == 1 else "s"}'
+
+
+def about_replay(data, run, number, index):
+    """Of a refusal that is replay's own."""
+    if number == 32:
+        return f'the trace has {many(len(run.trace), "number")}, and it must have 64 for each step'
+    instruction = f'instruction {index} ({text_of(parts(data)[1][index])})'
+    if number == 31:
+        count = len(run.uniforms)
+        given = 'none' if count == 0 else 'u0 alone' if count == 1 else f'u0 to u{count - 1}'
+        return f'{instruction} reads a uniform that the run does not give: it gives {given}'
+    return f'{instruction} is none that replay runs: it runs NOP, BRANCHZ, MOV.i32, CLZ.u32, POPCOUNT.i32, BITREV.i32, NOT_OLD.i32, MUX.i32 and ' \
+        'FADD.f32, where they have no combine or widen, write whole registers and read no special constant'
+
+
+def about_answer(data, run, answer):
+    """What is said of what came of a run, a line each."""
+    kind, *rest = answer
+    if kind == 'REFUSED':
+        number, place, index, *_ = rest
+        why = about_replay(data, run, number, index) if number >= 30 else meaning(data, *rest)
+        return [f'refused with {number}: {why}.']
+    if kind == 'DIFFERS':
+        step, register = rest
+        return [f'r{register} is the lowest register that is not as recorded after step {step}'
+                + ('; after the steps before it all 64 registers are.' if step else ', the first one.')]
+    [ran], recorded = rest, len(run.trace) // 64
+    said = [] if kind == 'END' else ['the limit came before the end of the program.']
+    if recorded == 0:
+        return said + ['the run has no trace, so nothing was compared.']
+    if recorded < ran:
+        return said + [f'the trace has {many(recorded, "step")}, so from step {recorded} on nothing was compared.']
+    if recorded > ran:
+        return said + [f'the trace has {many(recorded, "step")}, and the run stopped after {ran}: the rest of the trace was not compared.']
+    return said
+
+
+def not_given(data, run, name):
+    """What is said of registers and uniforms that the run does not give, a line each."""
+    said, given = [], sum(BOTH << r for r in run.registers)
+    lacking = parts(data)[0] & ~given
+    if lacking:
+        starts = 'it starts' if sum(map(len, registers_in(lacking))) == 1 else 'they start'
+        said.append(f'the parcel says that {are_filled(lacking)} before it starts, which {name} does not give: {starts} as 0.')
+    if ' ' in run.without:
+        said.append(f'{run.without} are not given by {name}, and count as 0.')
+    elif run.without:
+        said.append(f'{run.without} is not given by {name}, and counts as 0.')
+    return said
+
+
+def reads_back(text, number):
+    try:
+        return struct.pack('<f', float(text)) == struct.pack('<I', number)
+    except OverflowError:
+        return False
+
+
+def single_text(number):
+    """The shortest decimal that reads back as these bits, but for some powers of two, of which it is one digit longer."""
+    value = struct.unpack('<f', struct.pack('<I', number))[0]
+    if value != value:
+        return 'nan'
+    if value in (float('inf'), float('-inf')):
+        return str(value)
+    digits, exponent = next(text for text in (f'{value:.{places}e}' for places in range(9)) if reads_back(text, number)).split('e')
+    if -5 <= int(exponent) < 10:
+        places = max(len(digits.lstrip('-').replace('.', '')) - 1 - int(exponent), 1)
+        return f'{float(digits + "e" + exponent):.{places}f}'
+    return f'{digits}e{exponent}'
+
+
+def bits_text(number):
+    return f'{number:08X} ({single_text(number)}, {number})'
+
+
+def step_lines(k, before, after, recorded):
+    """What --steps shows of a step; `recorded` is empty where the trace has no such step."""
+    front = f'step {k:<4}'
+    told = [r for r in range(64) if before[r] != after[r] or recorded and recorded[r] != after[r]]
+    lines = []
+    for r in told:
+        line = bits_text(after[r])
+        if recorded:
+            line = f'{line:28}  recorded {bits_text(recorded[r])}' + ('  <- differs' if recorded[r] != after[r] else '')
+        lines.append(f'{front if r == told[0] else " " * len(front)}  {"r" + str(r):3}  {line}')
+    return lines or [f'{front}  no register changed']
+
+
+def steps_text(run, states):
+    before, lines = [run.registers.get(r, 0) for r in range(64)], []
+    for k, after in enumerate(states):
+        lines += step_lines(k, before, after, run.trace[64 * k:64 * k + 64])
+        before = after
+    return ''.join(line + '\n' for line in lines)
+
+
+def replayed(data, run, name):
+    """What replay does with a parcel and a run in a file of this name: the status, its standard output, the same with --steps, and standard error."""
+    answer, states = replay(data, [run.registers.get(r, 0) for r in range(64)], run.uniforms, run.trace, run.limit)
+    said = [] if opening(data) else not_given(data, run, name)
+    line = answer_line(answer, states, run.trace) + '\n'
+    error = ''.join(f'vsp: {sentence}\n' for sentence in said + about_answer(data, run, answer))
+    return 0 if answer[0] in ('END', 'LIMIT') else 1, line, steps_text(run, states) + line, error
+
+
+def write_replay(folder, name, data, run, file):
+    """NAME.status, NAME.out, NAME.steps and NAME.err."""
+    status, *texts = replayed(data, run, file)
+    write(folder, name + '.status', str(status).encode())
+    for ending, text in zip(('.out', '.steps', '.err'), texts):
+        write(folder, name + ending, text.encode())
+
+
+# ---- files
 
 
 def write(folder, name, data):

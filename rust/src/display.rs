@@ -1,6 +1,6 @@
-//! Instructions, refusals and verdicts in words.
+//! Instructions, refusals, verdicts and runs in words.
 
-use crate::{Form, Half, Inference, Refusal, Side, TEXT, Unread, Verdict, ascii, raw};
+use crate::{Form, Half, Inference, NotRun, Refusal, Replayed, Side, TEXT, Unread, Verdict, ascii, raw};
 use std::fmt::{Display, Formatter, Result};
 
 /// A refusal with all that is known of it.
@@ -24,7 +24,7 @@ const NOBODY: Blamed = Blamed { register: 64, half: None };
 impl Display for Fault {
     fn fmt(&self, f: &mut Formatter) -> Result {
         write!(f, "refused with {}", self.number)?;
-        if let (Some(index), 2..=7 | 20..=23) = (self.index, self.number) {
+        if let (Some(index), 2..=7 | 20..=23 | 30 | 31) = (self.index, self.number) {
             write!(f, " at instruction {index}")?;
         }
         f.write_str(": ")?;
@@ -72,6 +72,9 @@ impl Fault {
                 write!(f, "it has a note that names {blamed}, {what}")
             }
             24 => f.write_str("with these words and this entry set no notes at all would be accepted"),
+            30 => f.write_str("replay doesn't run such an instruction"),
+            31 => f.write_str("it has a uniform that the list doesn't have"),
+            32 => f.write_str("the trace isn't 64 numbers for each step"),
             _ => f.write_str("this number is never given"),
         }
     }
@@ -133,6 +136,26 @@ impl Display for Unread {
     }
 }
 
+impl Display for Replayed {
+    fn fmt(&self, f: &mut Formatter) -> Result {
+        let (name, steps) = match *self {
+            Replayed::Ended { steps } => ("END", steps),
+            Replayed::Limit { steps } => ("LIMIT", steps),
+            Replayed::Differs { step, register } => return write!(f, "DIFFERS at step {step}, r{register}"),
+        };
+        write!(f, "{name} after {steps} {}", if steps == 1 { "step" } else { "steps" })
+    }
+}
+
+impl Display for NotRun {
+    fn fmt(&self, f: &mut Formatter) -> Result {
+        let NotRun { number, place, index, register, half } = *self;
+        Fault { number, place, index: Some(index), blamed: Blamed { register, half } }.fmt(f)
+    }
+}
+
 impl std::error::Error for Refusal {}
 
 impl std::error::Error for Unread {}
+
+impl std::error::Error for NotRun {}

@@ -27,6 +27,8 @@ pub const TEXT: usize = 534;
 pub const NAME: usize = 19;
 /// No list of differences has more lines: 24 for each of 2048 instructions, and three.
 pub const DIFF_LINES: usize = 24 * 2048 + 3;
+/// How many registers there are, and how many numbers a trace has for a step.
+pub const REGISTERS: usize = 64;
 
 /// The fields of an instruction. What its row has no place for is 0. [`text`] writes it out, as
 /// `Display` does.
@@ -159,6 +161,45 @@ pub struct Unread {
     pub index: u16,
     /// 64: none of these refusals blames a register.
     pub register: u8,
+}
+
+/// How a run of [`replay`] came to its stop. `Display` says it in words, as `END after 5 steps`,
+/// `LIMIT after 1 step` or `DIFFERS at step 3, r2`.
+#[derive(Clone, Copy, Debug, PartialEq, Eq)]
+pub enum Replayed {
+    /// At an instruction with flow `end`, with nothing that differs from the trace.
+    Ended {
+        /// How many steps were run.
+        steps: u32,
+    },
+    /// At the limit, with nothing that differs from the trace.
+    Limit {
+        /// How many steps were run: as many as the limit says.
+        steps: u32,
+    },
+    /// At the first step that leaves a register other than the trace has it.
+    Differs {
+        /// The step, counted from 0. It was the last one that was run.
+        step: u32,
+        /// The lowest such register.
+        register: u8,
+    },
+}
+
+/// Why [`replay`] runs nothing. `Display` says it in words, as `refused with 31 at instruction 3:
+/// it has a uniform that the list doesn't have`.
+#[derive(Clone, Copy, Debug, PartialEq, Eq)]
+pub struct NotRun {
+    /// As from [`check`], or 30, 31 or 32.
+    pub number: u8,
+    /// As in [`Refusal`].
+    pub place: u8,
+    /// The instruction at fault, 0 where none is.
+    pub index: u16,
+    /// As in [`Verdict`]; 64 for 30, 31 and 32.
+    pub register: u8,
+    /// As in [`Verdict`].
+    pub half: Option<Half>,
 }
 
 /// Opens a parcel, reads all its words and checks its notes.
@@ -311,6 +352,60 @@ pub fn differences(first: &[u8], second: &[u8]) -> Result<Vec<Difference>, Unrea
     }
 }
 
+/// Checks the parcel, runs its program in one thread, and compares the registers after each step
+/// with a trace, which is what a display recorded of its own run. `include/vsp.h` says which nine
+/// instructions are run, and what each does.
+///
+/// The registers go in as they are before the first step, and are left as the last step that is
+/// run leaves them. Uniform k of the program is number k of the list. The trace has the 64
+/// registers after each step, one step after the other; where it has fewer steps than are run, the
+/// others aren't compared, and where it has more, the rest isn't looked at. The run stops at the
+/// first difference, else at an `end`, else when as many steps are run as the limit says.
+///
+/// A refusal comes before the first step and leaves the registers as they were: first those of
+/// [`check`]; then 32 for a trace that isn't 64 numbers for each step; then, for the lowest
+/// instruction that has either, 30 for one that isn't run or 31 for a uniform that the list doesn't
+/// have, and 30 if it has both.
+///
+/// ```no_run
+/// # fn main() -> Result<(), Box<dyn std::error::Error>> {
+/// let parcel = std::fs::read("samples/loop.vsp")?;
+/// let uniforms = [0.5_f32, -1.0].map(f32::to_bits);
+/// let mut registers = [0; vsp::REGISTERS];
+/// registers[0] = 3.0_f32.to_bits();
+/// let replayed = vsp::replay(&parcel, &mut registers, &uniforms, &[], 1_000)?;
+/// assert_eq!(replayed.to_string(), "END after 11 steps");
+/// assert_eq!(f32::from_bits(registers[2]), 1.5);
+/// # Ok(())
+/// # }
+/// ```
+pub fn replay(
+    parcel: &[u8],
+    registers: &mut [u32; REGISTERS],
+    uniforms: &[u32],
+    trace: &[u32],
+    limit: u32,
+) -> Result<Replayed, NotRun> {
+    let code = raw::replay(parcel, registers, uniforms, trace, limit);
+    let steps = (code >> 16) as u32;
+    match code as u8 {
+        0 => Ok(Replayed::Ended { steps }),
+        raw::REPLAY_LIMIT => Ok(Replayed::Limit { steps }),
+        raw::REPLAY_DIFFERS => Ok(Replayed::Differs { step: steps - 1, register: (code >> 8) as u8 }),
+        _ => Err(not_run(code)),
+    }
+}
+
+fn not_run(code: u64) -> NotRun {
+    NotRun {
+        number: code as u8,
+        place: (code >> 8) as u8,
+        index: (code >> 16) as u16,
+        register: (code >> 32) as u8,
+        half: half((code >> 40) as u8),
+    }
+}
+
 fn unread(code: u64) -> Unread {
     Unread {
         side: if code >> 48 == 1 { Side::First } else { Side::Second },
@@ -339,6 +434,16 @@ fn answer(code: u32) -> Result<(), Refusal> {
     match code {
         0 => Ok(()),
         _ => Err(Refusal { number: code as u8, place: (code >> 8) as u8 }),
+    }
+}
+
+impl Replayed {
+    /// How many steps were run.
+    pub fn steps(self) -> u32 {
+        match self {
+            Replayed::Ended { steps } | Replayed::Limit { steps } => steps,
+            Replayed::Differs { step, .. } => step + 1,
+        }
     }
 }
 

@@ -1,11 +1,15 @@
 //! The C functions with slices for pointers and lengths, and their codes as they come.
 
-use crate::{DIFF_LINES, FORM, NAME, TEXT};
+use crate::{DIFF_LINES, FORM, NAME, REGISTERS, TEXT};
 
 /// From [`row_of`]: the opcode has no such row.
 pub const NO_ROW: u32 = 255;
 /// From [`diff_line`]: the list has no such line.
 pub const FEWER: u64 = 255;
+/// From [`replay`], as the number of its answer: it came to the limit.
+pub const REPLAY_LIMIT: u8 = 254;
+/// From [`replay`], as the number of its answer: a register isn't as in the trace.
+pub const REPLAY_DIFFERS: u8 = 255;
 
 /// A line of the list of differences: what + 2^8 which + 2^16 index, and both contents.
 pub type Line = [u64; 3];
@@ -41,6 +45,16 @@ unsafe extern "C" {
         second: *const u8,
         second_length: usize,
         lines: *mut u64,
+    ) -> u64;
+    fn vsp_replay(
+        parcel: *const u8,
+        parcel_length: usize,
+        registers: *mut u32,
+        uniforms: *const u32,
+        uniforms_count: usize,
+        trace: *const u32,
+        trace_count: usize,
+        limit: u32,
     ) -> u64;
 }
 
@@ -110,4 +124,15 @@ pub fn diff_lines(first: &[u8], second: &[u8], lines: &mut [Line; DIFF_LINES]) -
     let lines = lines.as_flattened_mut().as_mut_ptr();
     // SAFETY: as above; the lines have room for any list.
     unsafe { vsp_diff_lines(first.as_ptr(), first.len(), second.as_ptr(), second.len(), lines) }
+}
+
+/// 2^16 steps where the program came to an end; the same + [`REPLAY_LIMIT`] where it came to the
+/// limit, + [`REPLAY_DIFFERS`] + 2^8 register where a register differs; or the refusal as from
+/// [`check`], and then the registers keep their numbers.
+pub fn replay(parcel: &[u8], registers: &mut [u32; REGISTERS], uniforms: &[u32], trace: &[u32], limit: u32) -> u64 {
+    let (bytes, room) = (parcel.as_ptr(), registers.as_mut_ptr());
+    let (numbers, record) = (uniforms.as_ptr(), trace.as_ptr());
+    // SAFETY: parcel, uniforms and trace are as long as said, to read; the registers are 64 numbers
+    // to write to, apart from them.
+    unsafe { vsp_replay(bytes, parcel.len(), room, numbers, uniforms.len(), record, trace.len(), limit) }
 }

@@ -1,8 +1,8 @@
-//! Refusals and verdicts in words.
+//! Refusals, verdicts and runs in words.
 
 use inputs::{parcel, parcel_2, with_version};
 use std::error::Error;
-use vsp::{Half, Inference, Refusal, Side, Unread, Verdict};
+use vsp::{Half, Inference, NotRun, Refusal, Replayed, Side, Unread, Verdict};
 
 /// MOV.i32 r1, r2 without and with flow `end`; one with a bit too many.
 const MOV: u64 = 0x0091_C100_0000_0002;
@@ -165,7 +165,45 @@ fn comparisons() {
     assert_eq!(unread.to_string(), "the first parcel is refused with 10: the mark isn't VSP");
 }
 
-/// Both kinds of refusal that a `Result` has can be handed on as errors.
+#[test]
+fn replays() {
+    let examples = [
+        (Replayed::Ended { steps: 5 }, 5, "END after 5 steps"),
+        (Replayed::Ended { steps: 1 }, 1, "END after 1 step"),
+        (Replayed::Limit { steps: 1 }, 1, "LIMIT after 1 step"),
+        (Replayed::Limit { steps: 0 }, 0, "LIMIT after 0 steps"),
+        (Replayed::Limit { steps: u32::MAX }, u32::MAX, "LIMIT after 4294967295 steps"),
+        (Replayed::Differs { step: 3, register: 2 }, 4, "DIFFERS at step 3, r2"),
+        (Replayed::Differs { step: 0, register: 63 }, 1, "DIFFERS at step 0, r63"),
+    ];
+    for (replayed, steps, sentence) in examples {
+        assert_eq!((replayed.to_string().as_str(), replayed.steps()), (sentence, steps));
+    }
+}
+
+/// As runs come to their stop, and as they are refused.
+#[test]
+fn replays_that_are_given() {
+    let replay = |words: &[u64], notes: &[u64], trace: &[u32]| {
+        let replayed = vsp::replay(&parcel(4, words, notes), &mut [0; 64], &[], trace, 1);
+        replayed.map_or_else(|refusal| refusal.to_string(), |replayed| replayed.to_string())
+    };
+    // MOV.i32 r1, u0 and FRCP.f32 r4, u2.
+    let (uniform, other) = (0x0091_C100_0000_0080, 0x009C_C400_0000_0082);
+    assert_eq!(replay(&[LAST], &[4], &[]), "END after 1 step");
+    assert_eq!(replay(&[MOV, LAST], &[4, 4], &[]), "LIMIT after 1 step");
+    assert_eq!(replay(&[LAST], &[4], &[1; 64]), "DIFFERS at step 0, r0");
+    let sentence = "refused with 30 at instruction 1: replay doesn't run such an instruction";
+    assert_eq!(replay(&[MOV, other, LAST], &[4; 3], &[]), sentence);
+    let sentence = "refused with 31 at instruction 0: it has a uniform that the list doesn't have";
+    assert_eq!(replay(&[uniform, other, LAST], &[4; 3], &[]), sentence);
+    let sentence = "refused with 32: the trace isn't 64 numbers for each step";
+    assert_eq!(replay(&[uniform, LAST], &[4; 2], &[0; 63]), sentence);
+    let sentence = "refused with 20 at instruction 0: it reads r2L, which its note doesn't name";
+    assert_eq!(replay(&[LAST], &[0], &[0; 63]), sentence);
+}
+
+/// All kinds of refusal that a `Result` has can be handed on as errors.
 #[test]
 fn errors() {
     let read = || -> Result<vsp::Form, Box<dyn Error>> { Ok(vsp::read(&[])?) };
@@ -173,4 +211,8 @@ fn errors() {
     let unread = Unread { side: Side::First, number: 13, place: 0, index: 0, register: 64 };
     let error: Box<dyn Error + Send + Sync> = unread.into();
     assert_eq!(error.to_string(), "the first parcel is refused with 13: byte 5 isn't 0");
+    let not_run = NotRun { number: 20, place: 0, index: 3, register: 5, half: Some(Half::High) };
+    let error: Box<dyn Error + Send + Sync> = not_run.into();
+    let sentence = "refused with 20 at instruction 3: it reads r5H, which its note doesn't name";
+    assert_eq!(error.to_string(), sentence);
 }

@@ -1,8 +1,8 @@
 -- Demand 1: a call gives what it is for, be it the record of a word, the word of a record, an opened or a written parcel, a verdict, the
--- notes that the maker proposes and the number of its sweeps (02, Item 1), or, of what differs between two parcels, a line of the list,
--- that the list has fewer, or the whole list (02, Item 4); or it refuses, and then with a single number: the one whose turn comes first
--- (01, Numbers given back), of which a comparison says whose it is. The call for the rows of an opcode refuses nothing: it gives a row or
--- says that there is none (02, Item 3).
+-- notes that the maker proposes and the number of its sweeps (02, Item 1), of what differs between two parcels a line of the list, that the
+-- list has fewer, or the whole list (02, Item 4), or what stopped a replay, and after how many steps (02, Item 8); or it refuses, and then
+-- with a single number: the one whose turn comes first (01, Numbers given back), of which a comparison says whose it is. The call for the
+-- rows of an opcode refuses nothing: it gives a row or says that there is none (02, Item 3).
 use mathlib.Core.Bool.{Bool, true, false}
 use mathlib.Core.List.{List, [], _∷_}
 use Prim.Native.Nat.{ℕ, zero, suc}

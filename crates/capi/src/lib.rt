@@ -11,6 +11,8 @@ ghost use Rattle.safety.specs.Demand3.{Demand3At};
 ghost use Rattle.infer.specs.Inference.{infer-outcome, infer-buffer};
 ghost use Rattle.infer.specs.Asked.{AsAsked};
 ghost use Rattle.differences.specs.Answers.{line-outcome, list-outcome, list-buffer};
+ghost use Rattle.replay.specs.Replay.{asked, replay-outcome, replay-registers};
+ghost use Rattle.replaycode.specs.ReplayCode.{replay-code};
 ghost use Rattle.codes.specs.Codes.{outcome-code, verdict-code, infer-code, row-code, line-code, line-after, list-code};
 ghost use Rattle.form.specs.Form.{form-after, write-form, word-after};
 ghost use Rattle.codes.specs.Texts.{text-after, form-text, name-after};
@@ -37,6 +39,9 @@ use opcoderows::row_with;
 use reader::answer::Reading;
 use record::answer::Fresh;
 use record::instruction::Instruction;
+use replay::Replayed;
+use replay::replay;
+use replaycode::stop_code;
 use safety::verdict::Verdict;
 use sweeps::answer::Inference;
 use text::name::put_name;
@@ -120,6 +125,26 @@ pub extern "C" fn vsp_diff_lines<'a>(
     match l {
         Listed::Lines(n) => 65536 * n as u64,
         Listed::Unread(u) => unread_code(u),
+    }
+}
+
+// Replays a container on 64 registers, which are changed in place, with some uniforms, against a recorded trace, at most `limit` steps: what
+// stopped the run as one number, or the finding as one number, and then the registers stay.
+#[no_mangle]
+pub extern "C" fn vsp_replay<'a>(
+    container: &'a [u8],
+    registers: &mut [u32; 64],
+    uniforms: &'a [u32],
+    trace: &'a [u32],
+    limit: u32,
+) -> u64
+    ensures answer { λ r. ⌜ r ≡ replay-code (replay-outcome (asked (now (container .entry)) (now (registers .entry)) (now (uniforms .entry)) (now (trace .entry)) limit)) ⌝ }
+    ensures left { λ r. ⌜ now (registers .exit) ≡ replay-registers (asked (now (container .entry)) (now (registers .entry)) (now (uniforms .entry)) (now (trace .entry)) limit) ⌝ }
+{
+    let a = replay(container, registers, uniforms, trace, limit);
+    match a {
+        Replayed::Ran(s) => stop_code(s),
+        Replayed::Refused(f) => finding_code(f),
     }
 }
 

@@ -1,16 +1,16 @@
 -- What is proved, on one page: every top theorem by name. The types are the statements; the definitions in them stand in the `specs` folders,
 -- in the order that README gives. The calls are those that users have: their contracts stand at the calls, in `src`. Assumes nothing.
-use mathlib.Core.Bool.{true}
-use mathlib.Core.List.{List}
-use Prim.Native.Nat.{ℕ, suc, _^_, _<_, _≤_}
+use mathlib.Core.Bool.{true, false, cond}
+use mathlib.Core.List.{List, [], _∷_, map}
+use Prim.Native.Nat.{ℕ, suc, _-_, _^_, _<_, _≤_}
 use mathlib.Core.Path.{_≡_}
 use mathlib.Core.Logic.{_≢_, _⊎_, _↔_}
-use lib.Dec.{T}
+use lib.Dec.{T, eqb}
 use lib.ListN.{length, take}
 use lib.Pow.{areBytes}
 use Rattle.bits.specs.Outcomes.{Outcome, gives, refuses, passes}
 use Rattle.bits.specs.declared.halves.Halves.{Halves}
-use Rattle.rows.specs.Rows.{row-count}
+use Rattle.rows.specs.Rows.{row-count, row-of}
 use Rattle.rows.specs.Sources.{meaning, Paired}
 use Rattle.sources.proofs.meaning as meaning-call
 use Rattle.rows.proofs.SourceLaws as source-laws
@@ -136,8 +136,29 @@ use Rattle.capi.proofs.vsp_check as vsp-check-call
 use Rattle.capi.proofs.vsp_infer as vsp-infer-call
 use Rattle.capi.proofs.vsp_diff_line as vsp-diff-line-call
 use Rattle.capi.proofs.vsp_diff_lines as vsp-diff-lines-call
+use Rattle.capi.proofs.vsp_replay as vsp-replay-call
 use Rattle.capi.proofs.vsp_text as vsp-text-call
 use Rattle.capi.proofs.vsp_name as vsp-name-call
+use Rattle.fadd.specs.Single.{fadd}
+use Rattle.fadd.specs.Promises.{Adds}
+use Rattle.fadd.specs.Wrong.{negate-first, nan-up, minus-zero-kept, other-nan}
+use Rattle.fadd.proofs.fadd as fadd-call
+use Rattle.fadd.proofs.PromisesMet as addition
+use Rattle.fadd.proofs.WrongAdditions as wrong-additions
+use Rattle.ops.specs.Rows.{bit, total, clz, popcount, bitrev, complement, passes as mask-passes, mux, jumps}
+use Rattle.ops.proofs.RowLaws as row-laws
+use Rattle.operations.specs.Replayable.{nine-rows}
+use Rattle.operations.proofs.RowLaws as nine-laws
+use Rattle.replay.specs.Replay.{Asked as Replay, replay-outcome, replay-registers}
+use Rattle.replay.proofs.replay as replay-call
+use Rattle.replay.proofs.NumberedLaws as replay-numbers
+use Rattle.replaypromise.specs.Promises.{Replays}
+use Rattle.replaypromise.specs.Lazy.{AlwaysEnds, NeverCompares, ComparesRegister0}
+use Rattle.replaypromise.proofs.PromisesMet as replayed
+use Rattle.replaypromise.proofs.LazyReplays as lazy-replays
+use Rattle.run.specs.declared.Stop.{Stop}
+use Rattle.replaycode.specs.ReplayCode.{LowByteTells}
+use Rattle.replaycode.proofs.CodeLaws as replay-codes
 use Rattle.codes.proofs.PromiseLaws as promises
 use Rattle.codes.proofs.TextLaws as text-promises
 use Rattle.claims.proofs.FrontLaws as front-laws
@@ -268,6 +289,9 @@ module _ {M : Type 1} where
   pub c-compares-whole : vsp-diff-lines-call.Statement.statement M
   c-compares-whole = vsp-diff-lines-call.Met.met
 
+  pub c-replays : vsp-replay-call.Statement.statement M
+  c-replays = vsp-replay-call.Met.met
+
   pub c-tells-text : vsp-text-call.Statement.statement M
   c-tells-text = vsp-text-call.Met.met
 
@@ -275,8 +299,8 @@ module _ {M : Type 1} where
   c-names = vsp-name-call.Met.met
 
 -- the numbers of the refusals are those of the rules: 1 to 7 of reading, 2 and 4 to 9 of writing, 2 of making, 10 to 13 of opening, 11 and 12
--- of packing, 14 of asking for a word, of the check 2 to 7, 10 to 13 and 20 to 23, of the maker 2 to 7, 11, 12 and 24, and of a
--- comparison 2 to 7 and 10 to 13
+-- of packing, 14 of asking for a word, of the check 2 to 7, 10 to 13 and 20 to 23, of the maker 2 to 7, 11, 12 and 24, of a comparison 2 to 7
+-- and 10 to 13, and of a replay those of the check and 30 to 32
 pub read-refusals : (bs : List ℕ) (f : Refusal) → read bs ≡ refuses f → (1 ≤ f .number) × (f .number ≤ 7)
 read-refusals = reader-numbers.read-numbers
 
@@ -324,6 +348,11 @@ infer-refusals = infer-numbers.infer-numbers
 pub check-refusals : (s : List ℕ) (f : Finding) → verdict-of s ≡ refuses f
     → ((2 ≤ f .number) × (f .number ≤ 7)) ⊎ (((10 ≤ f .number) × (f .number ≤ 13)) ⊎ ((20 ≤ f .number) × (f .number ≤ 23)))
 check-refusals = verifier-numbers.verdict-numbers
+
+pub replay-refusals : (a : Replay) (f : Finding) → replay-outcome a ≡ refuses f
+    → (((2 ≤ f .number) × (f .number ≤ 7)) ⊎ (((10 ≤ f .number) × (f .number ≤ 13)) ⊎ ((20 ≤ f .number) × (f .number ≤ 23))))
+    ⊎ ((30 ≤ f .number) × (f .number ≤ 32))
+replay-refusals = replay-numbers.replay-numbers
 
 -- ---- Demand 2: what is read, what is written, and that the two undo one another
 pub demand-2 : Demand2 read write stored
@@ -552,6 +581,95 @@ shown-from-the-front = show-fronts.shown-from-the-front
 -- what is told to be left out by the scope is no row's, and has one name
 pub left-out-apart : Apart
 left-out-apart = stands-apart.stands-apart
+
+-- ---- Replay (02, Item 8): a refusal is one of the rules' and in their order, and touches no register; else the instructions run form a walk, no
+-- step reads a half that is not held on it, every step run that the trace has is as recorded but for one that a difference names, and what stopped
+-- the run is told as it is
+pub replays-as-promised : Replays replay-outcome replay-registers
+replays-as-promised = replayed.replays
+
+-- a replay that always answers `end`, one that never compares and one that compares register 0 only do not keep that
+module _ (answer : Replay → Outcome Finding Stop) (left : Replay → List ℕ) where
+  pub not-by-always-ending : AlwaysEnds answer → ¬ Replays answer left
+  not-by-always-ending = lazy-replays.always-ends answer left
+
+  pub not-by-never-comparing : NeverCompares answer → ¬ Replays answer left
+  not-by-never-comparing = lazy-replays.never-compares answer left
+
+  pub not-by-comparing-register-0 : ComparesRegister0 answer → ¬ Replays answer left
+  not-by-comparing-register-0 = lazy-replays.compares-register-0 answer left
+
+-- the rows that it runs are those of the item
+pub nine-rows-named : map (λ (k : ℕ). row-of k .name) nine-rows
+    ≡ "NOP" ∷ "BRANCHZ" ∷ "MOV.i32" ∷ "CLZ.u32" ∷ "POPCOUNT.i32" ∷ "BITREV.i32" ∷ "NOT_OLD.i32" ∷ "FADD.f32" ∷ "MUX.i32" ∷ []
+nine-rows-named = nine-laws.named
+
+-- FADD: absolute before negate, the correctly rounded sum, each clamp with 002's identities, and 7FC00000; and wrong additions do not keep that
+pub adds-as-promised : Adds fadd
+adds-as-promised = addition.adds
+
+pub not-by-negating-first : ¬ Adds negate-first
+not-by-negating-first = wrong-additions.negates-first
+
+pub not-by-nan-to-the-upper-bound : ¬ Adds nan-up
+not-by-nan-to-the-upper-bound = wrong-additions.takes-nan-up
+
+pub not-by-keeping-minus-zero : ¬ Adds minus-zero-kept
+not-by-keeping-minus-zero = wrong-additions.keeps-minus-zero
+
+pub not-by-another-nan : ¬ Adds other-nan
+not-by-another-nan = wrong-additions.records-other-nan
+
+-- the rows on whole numbers: CLZ of 0 is 32, and else it counts the zeros above the highest 1; POPCOUNT counts ones, BITREV turns the bits round,
+-- NOT_OLD takes each the other way; MUX by the sign bit, by 0, by either zero, and bit by bit; BRANCHZ jumps on nonzero, and with eq on zero
+pub clz-of-zero : clz 0 ≡ 32
+clz-of-zero = row-laws.clz-zero
+
+pub clz-counts : (x : ℕ) → 0 < x → x < 2 ^ 32 → (2 ^ (31 - clz x) ≤ x) × (x < 2 ^ (32 - clz x))
+clz-counts = row-laws.clz-top
+
+pub popcount-counts : (x : ℕ) → x < 2 ^ 32 → popcount x ≡ total (bit x) 32
+popcount-counts = row-laws.popcount-bits
+
+pub bitrev-turns : (x i : ℕ) → i < 32 → bit (bitrev x) i ≡ bit x (31 - i)
+bitrev-turns = row-laws.bitrev-bit
+
+pub complement-turns : (x i : ℕ) → x < 2 ^ 32 → i < 32 → bit (complement x) i ≡ 1 - bit x i
+complement-turns = row-laws.complement-bit
+
+pub mux-by-mask : (mode a b m : ℕ) → mode < 3 → mux mode a b m ≡ cond (mask-passes mode m) a b
+mux-by-mask = row-laws.mux-chooses
+
+pub neg-is-the-sign : (m : ℕ) → m < 2 ^ 32 → mask-passes 0 m ≡ eqb (bit m 31) 1
+neg-is-the-sign = row-laws.neg-passes
+
+pub int-zero-is-zero : (m : ℕ) → (mask-passes 1 m ≡ true) ↔ (m ≡ 0)
+int-zero-is-zero = row-laws.int-zero-passes
+
+pub fp-zero-is-either : (m : ℕ) → m < 2 ^ 32 → (mask-passes 2 m ≡ true) ↔ ((m ≡ 0) ⊎ (m ≡ 2 ^ 31))
+fp-zero-is-either = row-laws.fp-zero-passes
+
+pub mux-by-bits : (a b m i : ℕ) → m < 2 ^ 32 → i < 32 → bit (mux 3 a b m) i ≡ cond (eqb (bit m i) 1) (bit a i) (bit b i)
+mux-by-bits = row-laws.mux-bit
+
+pub jumps-on-nonzero : (s : ℕ) → (jumps false s ≡ true) ↔ (s ≢ 0)
+jumps-on-nonzero = row-laws.jumps-nonzero
+
+pub jumps-on-zero-with-eq : (s : ℕ) → (jumps true s ≡ true) ↔ (s ≡ 0)
+jumps-on-zero-with-eq = row-laws.jumps-zero
+
+module _ {M : Type 1} where
+  -- `replay::replay`: the answer stands for `replay-outcome`, and the registers afterwards are `replay-registers`
+  pub replays : replay-call.Statement.statement M
+  replays = replay-call.Met.met
+
+  -- `fadd::fadd`
+  pub sums : fadd-call.Statement.statement M
+  sums = fadd-call.Met.met
+
+-- the lowest byte of vsp_replay's answer tells `end`, the limit and a difference apart, and from every refusal
+pub low-byte-tells : LowByteTells
+low-byte-tells = replay-codes.low-byte-tells
 
 -- ---- The C header: 0 means done, 255 no row or no line, forms and words undo one another, a fresh form can be written and, alone in a parcel
 -- and with flow `end`, is accepted, and no text is empty

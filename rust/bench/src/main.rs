@@ -1,6 +1,6 @@
 //! Times the library against the reference on the same inputs, in turns, and prints a table for
 //! each version of the parcel; then the check of either version against that of the other, on the
-//! same words.
+//! same words; then the replay of loops, with a trace and without.
 //!
 //! The buffers hold the inputs before the clock starts; the form that a word is read into is
 //! not cleared between words, nor the notes between programs, nor the lines between comparisons,
@@ -8,7 +8,7 @@
 //! text for each instruction. An argument names the lister, which is timed as a whole process.
 
 use inputs::{Program, Rng, Set, Shape, encode, instruction, refused_word, with_word};
-use reference::{Instruction, ROW_COUNT, ROWS, Verdict};
+use reference::{Instruction, ROW_COUNT, ROWS, Registers, Replayed, Verdict};
 use std::fs::File;
 use std::hint::black_box;
 use std::path::Path;
@@ -26,6 +26,10 @@ const MAKER_REPEATS: usize = 51;
 const LONGEST: usize = 2048;
 /// Runs of the lister.
 const RUNS: usize = 101;
+/// Steps of a replay without a trace, and its timings; steps of one with a trace.
+const STEPS: u32 = 1_000_000;
+const REPLAY_REPEATS: usize = 101;
+const TRACED_STEPS: u32 = 4096;
 
 /// Accepted, refused for a read in the last instruction, refused for the last word.
 #[derive(Clone, Copy)]
@@ -52,11 +56,16 @@ fn main() -> ExitCode {
     for count in [16, 256, LONGEST] {
         agreed &= time_versions(count);
     }
+    heading("replay, million steps a second (median)", "Rattle", "Rust");
+    for scene in [adding(), nine_rows()] {
+        agreed &= time_replays(&scene);
+    }
     if !agreed {
         return ExitCode::FAILURE;
     }
     println!("Both are release builds on the same inputs, timed in turns; no buffer is cleared between calls.");
     println!("For infer an instruction's time is that of all its sweeps together, for diff that of a pair.");
+    println!("A replay checks the parcel and reads its words as well; its ratio is that of the times.");
     match std::env::args_os().nth(1) {
         Some(lister) if Path::new(&lister).is_file() => time_lister(Path::new(&lister)),
         Some(_) => {
@@ -277,6 +286,95 @@ fn time_differences(name: &str, first: &[u8], second: &[u8]) -> bool {
     report(&format!("diff, {name}, {lines} lines, n = {LONGEST}"), pass, agree, rattle, rust)
 }
 
+/// A loop that goes on for ever, and what it runs on.
+struct Scene {
+    name: &'static str,
+    parcel: Vec<u8>,
+    registers: Registers,
+    uniforms: Vec<u32>,
+}
+
+impl Scene {
+    /// The registers that are held before the start are the first ones.
+    fn new(name: &'static str, words: &[u64], first: &[f32], uniforms: &[f32]) -> Scene {
+        let instructions = words.iter().flat_map(|word| reference::read(&word.to_le_bytes())).collect();
+        let program = Program { entry: (1_u64 << first.len()) - 1, instructions };
+        let mut registers = [0; 64];
+        registers.iter_mut().zip(first).for_each(|(register, number)| *register = number.to_bits());
+        let uniforms = uniforms.iter().map(|number| number.to_bits()).collect();
+        Scene { name, parcel: program.parcel(&program.exact()), registers, uniforms }
+    }
+}
+
+/// The loop of the sample `loop`, with so large a number that it never comes to 0.
+fn adding() -> Scene {
+    let words = [
+        // FADD.f32 r1, r1, u0
+        0x00A4_C100_0000_8001,
+        // FADD.f32 r0, r0, u1
+        0x00A4_C000_0000_8100,
+        // BRANCHZ r0, offset:-3
+        0x001F_0007_FFFF_FD00,
+        // NOP.end
+        0x7800_0000_0000_0000,
+    ];
+    Scene::new("two sums", &words, &[1e30, 0.0], &[0.5, -1.0])
+}
+
+/// Each row that is run, once.
+fn nine_rows() -> Scene {
+    let words = [
+        // NOP
+        0x0000_0000_0000_0000,
+        // MOV.i32 r1, r0
+        0x0091_C100_0000_0000,
+        // CLZ.u32 r2, r1
+        0x0091_C200_0004_0001,
+        // POPCOUNT.i32 r3, r1
+        0x0091_C300_000C_0001,
+        // BITREV.i32 r4, r1
+        0x0091_C400_000D_0001,
+        // NOT_OLD.i32 r5, r4
+        0x0091_C500_000E_0004,
+        // MUX.i32.neg r6, r4, r5, r5
+        0x00B8_C600_0005_0504,
+        // FADD.f32.clamp_m1_1 r0, r0, u0.neg
+        0x00A4_C012_0000_8000,
+        // BRANCHZ 0xFFFFFFFF, offset:-9
+        0x001F_0007_FFFF_F7C1,
+        // NOP.end
+        0x7800_0000_0000_0000,
+    ];
+    Scene::new("nine rows", &words, &[1.0], &[0.001])
+}
+
+/// The loop without a trace and with one; whether the two sides agree.
+fn time_replays(scene: &Scene) -> bool {
+    let bare = Pass { instructions: STEPS as usize, repeats: REPLAY_REPEATS };
+    let traced = Pass { instructions: TRACED_STEPS as usize, ..Pass::default() };
+    let recorded = reference::record(&scene.parcel, &mut scene.registers.clone(), &scene.uniforms, TRACED_STEPS);
+    let trace = recorded.map_or(Vec::new(), |(_, records)| records.concat());
+    time_replay("no trace", scene, &[], STEPS, bare) & time_replay("traced", scene, &trace, TRACED_STEPS, traced)
+}
+
+/// A run to the limit on both sides; whether they agree on it and on the registers after it.
+fn time_replay(name: &str, scene: &Scene, trace: &[u32], limit: u32, pass: Pass) -> bool {
+    let Scene { parcel, registers, uniforms, .. } = scene;
+    let (mut first, mut second) = (*registers, *registers);
+    let agree = vsp::replay(parcel, &mut first, uniforms, trace, limit) == Ok(vsp::Replayed::Limit { steps: limit })
+        && reference::replay(parcel, &mut second, uniforms, trace, limit) == Ok(Replayed::Limit { steps: limit })
+        && first == second;
+    let rattle = || {
+        let mut now = *registers;
+        black_box(vsp::raw::replay(black_box(parcel), black_box(&mut now), uniforms, trace, limit));
+    };
+    let rust = || {
+        let mut now = *registers;
+        let _ = black_box(reference::replay(black_box(parcel), black_box(&mut now), uniforms, trace, limit));
+    };
+    report_steps(&format!("{}, {name}, {limit} steps", scene.name), pass, agree, rattle, rust)
+}
+
 /// How many instructions a pass goes through, and how often it is timed.
 struct Pass {
     instructions: usize,
@@ -289,8 +387,24 @@ impl Default for Pass {
     }
 }
 
-/// Times two in turns and prints a line.
-fn report(name: &str, pass: Pass, agree: bool, mut first: impl FnMut(), mut second: impl FnMut()) -> bool {
+/// Times two in turns and prints a line with the times of an instruction.
+fn report(name: &str, pass: Pass, agree: bool, first: impl FnMut(), second: impl FnMut()) -> bool {
+    report_as(name, pass, agree, |nanoseconds| nanoseconds, first, second)
+}
+
+/// The same with how many million steps each runs in a second.
+fn report_steps(name: &str, pass: Pass, agree: bool, first: impl FnMut(), second: impl FnMut()) -> bool {
+    report_as(name, pass, agree, |nanoseconds| 1e3 / nanoseconds, first, second)
+}
+
+fn report_as(
+    name: &str,
+    pass: Pass,
+    agree: bool,
+    shown: fn(f64) -> f64,
+    mut first: impl FnMut(),
+    mut second: impl FnMut(),
+) -> bool {
     if !agree {
         println!("{name:<44}the answers differ");
         return false;
@@ -302,7 +416,7 @@ fn report(name: &str, pass: Pass, agree: bool, mut first: impl FnMut(), mut seco
     }
     let nanoseconds = |times| median(times).as_nanos() as f64 / pass.instructions as f64;
     let (first, second) = (nanoseconds(firsts), nanoseconds(seconds));
-    println!("{name:<44}{first:>12.2}{second:>12.2}{:>9.2}", first / second);
+    println!("{name:<44}{:>12.2}{:>12.2}{:>9.2}", shown(first), shown(second), first / second);
     true
 }
 

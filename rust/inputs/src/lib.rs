@@ -5,16 +5,20 @@
 
 mod instruction;
 mod mesa;
+mod number;
 mod parcel;
 mod program;
+mod replayed;
 mod rng;
 mod set;
 mod tiny;
 
 pub use instruction::{BRANCH, assigned, encode, instruction, misfit, on_r0, pack, refused_word, source};
 pub use mesa::mesa;
+pub use number::{near_tie, number, numbers};
 pub use parcel::{parcel, parcel_2, parcel_of, with_version, with_word};
 pub use program::{Program, Shape};
+pub use replayed::{as_replayed, is_replayed, replayed_rows};
 pub use rng::Rng;
 pub use set::Set;
 pub use tiny::{Tiny, all_notes, tiny_programs, union_of_accepted};

@@ -1,4 +1,4 @@
-use crate::{BRANCH, Rng, Set, encode, instruction, parcel_of, source};
+use crate::{BRANCH, Rng, Set, as_replayed, encode, instruction, parcel_of, replayed_rows, source};
 use reference::{Instruction, ROW_COUNT, ROWS};
 
 pub(crate) const END: u8 = 15;
@@ -25,8 +25,14 @@ pub struct Program<S = u64> {
 impl<S: Set> Program<S> {
     /// Legal instructions whose successors all exist; they may read unheld registers.
     pub fn random(rng: &mut Rng, shape: Shape) -> Program<S> {
+        let rows: [u8; ROW_COUNT] = std::array::from_fn(|row| row as u8);
+        Program::of_rows(rng, shape, &rows)
+    }
+
+    /// The same with no other rows than these; branches are as many as the shape says.
+    fn of_rows(rng: &mut Rng, shape: Shape, rows: &[u8]) -> Program<S> {
         let pool = Pool { first: rng.byte(), count: shape.registers };
-        let instructions = (0..shape.count).map(|index| step(rng, shape, pool, index)).collect();
+        let instructions = (0..shape.count).map(|index| step(rng, shape, pool, rows, index)).collect();
         Program { entry: S::random(rng) | S::random(rng), instructions }
     }
 
@@ -43,6 +49,16 @@ impl<S: Set> Program<S> {
             instruction.half_mask = rng.pick(&[1, 2]);
         }
         program.made_safe(rng)
+    }
+
+    /// One that is accepted too and that the replay runs, given all the uniforms that it names.
+    pub fn replayed(rng: &mut Rng, shape: Shape) -> Program<S> {
+        let mut program = Program::of_rows(rng, shape, &replayed_rows());
+        program.instructions.iter_mut().for_each(as_replayed);
+        program = program.made_safe(rng);
+        // A source in place of a register that isn't held can be a special constant.
+        program.instructions.iter_mut().for_each(as_replayed);
+        program
     }
 
     /// The program without reads of what isn't held.
@@ -214,8 +230,8 @@ impl Pool {
 }
 
 /// A random instruction at an index, on the pool's registers; the last one ends.
-fn step(rng: &mut Rng, shape: Shape, pool: Pool, index: usize) -> Instruction {
-    let row = row(rng, shape);
+fn step(rng: &mut Rng, shape: Shape, pool: Pool, rows: &[u8], index: usize) -> Instruction {
+    let row = row(rng, shape, rows);
     let mut next = instruction(rng, row);
     if ROWS[row as usize].destination {
         next.register = pool.pick(rng);
@@ -236,12 +252,12 @@ fn step(rng: &mut Rng, shape: Shape, pool: Pool, index: usize) -> Instruction {
     next
 }
 
-fn row(rng: &mut Rng, shape: Shape) -> u8 {
+fn row(rng: &mut Rng, shape: Shape, rows: &[u8]) -> u8 {
     if rng.percent(shape.branches) {
         return BRANCH;
     }
     loop {
-        let row = rng.below(ROW_COUNT) as u8;
+        let row = rng.pick(rows);
         if row != BRANCH {
             return row;
         }

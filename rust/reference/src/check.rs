@@ -7,7 +7,7 @@ use crate::sets::Set;
 use crate::{Half, Parcel, Refusal, Version};
 
 /// The flow that ends the program.
-const END: u8 = 15;
+pub(crate) const END: u8 = 15;
 
 /// The answer of a check.
 #[derive(Clone, Copy, Debug, PartialEq, Eq)]

@@ -42,6 +42,12 @@ pub enum Refusal {
     UnheldAtEntry,
     /// The check accepts no notes with these words and this entry set in this version.
     NoNotes,
+    /// An instruction that replay doesn't run.
+    NotReplayed,
+    /// An instruction with a uniform that the list for replay doesn't have.
+    NoUniform,
+    /// The trace to replay against isn't 64 numbers for each step.
+    TraceLength,
 }
 
 impl Refusal {
@@ -67,6 +73,9 @@ impl Refusal {
             Refusal::UnheldAfter => 22,
             Refusal::UnheldAtEntry => 23,
             Refusal::NoNotes => 24,
+            Refusal::NotReplayed => 30,
+            Refusal::NoUniform => 31,
+            Refusal::TraceLength => 32,
         }
     }
 

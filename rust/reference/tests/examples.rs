@@ -755,6 +755,9 @@ fn numbers_and_places() {
         (Refusal::UnheldAfter, 22, 0),
         (Refusal::UnheldAtEntry, 23, 0),
         (Refusal::NoNotes, 24, 0),
+        (Refusal::NotReplayed, 30, 0),
+        (Refusal::NoUniform, 31, 0),
+        (Refusal::TraceLength, 32, 0),
     ];
     for (refusal, number, place) in refusals {
         assert_eq!((refusal.number(), refusal.place()), (number, place), "{refusal:?}");

@@ -2,7 +2,9 @@
 #![allow(dead_code)]
 
 use inputs::{Rng, Set, parcel_of};
-use reference::{Difference, Fault, Half, Instruction, ROWS, Refusal, Side, Unread, Verdict, What};
+use reference::{
+    Difference, Fault, Half, Instruction, NotRun, ROWS, Refusal, Registers, Replayed, Side, Unread, Verdict, What,
+};
 use std::path::{Path, PathBuf};
 use std::process::Command;
 use vsp::{DIFF_LINES, FORM, Form, NAME, TEXT, raw};
@@ -423,6 +425,83 @@ impl Comparer {
         let typed = expected.map(|line| line.map(typed)).map_err(typed_unread);
         assert_eq!(vsp::difference(first, second, k), typed, "line {k}, {}", pair(first, second));
     }
+}
+
+/// A parcel and what it is replayed on.
+#[derive(Clone, Copy)]
+pub struct Run<'a> {
+    pub parcel: &'a [u8],
+    pub registers: Registers,
+    pub uniforms: &'a [u32],
+    pub trace: &'a [u32],
+    pub limit: u32,
+}
+
+/// The answer, and the registers after it.
+pub type Outcome = (Result<Replayed, NotRun>, Registers);
+
+/// Replays with both; gives back what came of it.
+pub fn compare_replay(rng: &mut Rng, run: &Run) -> Outcome {
+    let Run { parcel, registers, uniforms, trace, limit } = *run;
+    let mut after = registers;
+    let expected = reference::replay(parcel, &mut after, uniforms, trace, limit);
+    if expected.is_err() {
+        assert_eq!(after, registers, "the reference's registers, {}", about(run));
+    }
+    let (mut numbers, part) = lent_registers(rng, &registers);
+    let before = numbers.clone();
+    let answer = raw::replay(parcel, (&mut numbers[part.clone()]).try_into().unwrap(), uniforms, trace, limit);
+    assert_eq!(answer, replay_code(expected), "{}", about(run));
+    assert_eq!(numbers[part.clone()], after, "the registers, {}", about(run));
+    numbers[part.clone()].copy_from_slice(&registers);
+    assert_eq!(numbers, before, "what is beside the registers, {}", about(run));
+    let mut safe = registers;
+    let typed = vsp::replay(parcel, &mut safe, uniforms, trace, limit);
+    assert_eq!(typed, expected.map(typed_replayed).map_err(typed_not_run), "{}", about(run));
+    assert_eq!(safe, after, "the registers, {}", about(run));
+    (expected, after)
+}
+
+/// The registers among random numbers, and where they are.
+fn lent_registers(rng: &mut Rng, registers: &Registers) -> (Vec<u32>, std::ops::Range<usize>) {
+    let mut numbers: Vec<u32> = (0..MARGIN + registers.len() + MARGIN).map(|_| rng.bits() as u32).collect();
+    let part = MARGIN..MARGIN + registers.len();
+    numbers[part.clone()].copy_from_slice(registers);
+    (numbers, part)
+}
+
+/// The run, for a message.
+fn about(run: &Run) -> String {
+    let Run { parcel, registers, uniforms, trace, limit } = run;
+    let steps = trace.len() as f64 / 64.0;
+    format!("limit {limit}, {steps} steps of trace, {registers:X?}, {uniforms:X?}, {}", hex(parcel))
+}
+
+/// 2^16 steps, at the limit 254 more, at a difference 255 + 2^8 register more; or the refusal as from
+/// the check.
+pub fn replay_code(answer: Result<Replayed, NotRun>) -> u64 {
+    match answer {
+        Ok(Replayed::Ended { steps }) => u64::from(steps) << 16,
+        Ok(Replayed::Limit { steps }) => 254 + (u64::from(steps) << 16),
+        Ok(Replayed::Differs { step, register }) => 255 + u64::from(register) * 256 + ((u64::from(step) + 1) << 16),
+        Err(NotRun { refusal, index, register, half }) => {
+            verdict_code(Verdict::Refused { refusal, index, register, half })
+        }
+    }
+}
+
+/// The answer in the wrapper's types.
+fn typed_replayed(replayed: Replayed) -> vsp::Replayed {
+    match replayed {
+        Replayed::Ended { steps } => vsp::Replayed::Ended { steps },
+        Replayed::Limit { steps } => vsp::Replayed::Limit { steps },
+        Replayed::Differs { step, register } => vsp::Replayed::Differs { step, register },
+    }
+}
+
+fn typed_not_run(NotRun { refusal, index, register, half }: NotRun) -> vsp::NotRun {
+    let vsp::Refusal { number, place } = from_refusal(refusal);
+    vsp::NotRun { number, place, index, register, half: half.map(typed_half) }
 }
 
 /// Both parcels, for a message.

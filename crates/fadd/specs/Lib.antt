@@ -1,0 +1,4 @@
+pub mod Single
+pub mod Rounding
+pub mod Promises
+pub mod Wrong

@@ -1,0 +1,3 @@
+pub mod ByteLaws
+pub mod RowLaws
+pub mod OperandLaws

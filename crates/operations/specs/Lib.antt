@@ -1,0 +1,3 @@
+pub mod Replayable
+pub mod Values
+pub mod served

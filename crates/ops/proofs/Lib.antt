@@ -1,0 +1,2 @@
+pub mod ReversalLaws
+pub mod RowLaws

@@ -1,0 +1,4 @@
+pub mod FaultLaws
+pub mod ReadyLaws
+pub mod AnswerLaws
+pub mod NumberedLaws

@@ -1,0 +1,4 @@
+pub mod ReadLaws
+pub mod CourseLaws
+pub mod PromisesMet
+pub mod LazyReplays

@@ -1,0 +1,1 @@
+// What a replay owes, whatever its code is. There is no code here.
