@@ -6,7 +6,7 @@
  * Exit status 0 where there is nothing to print, 1 where there is, 2 where a parcel is refused,
  * a file can't be read or standard output can't be written.
  *
- * From the root of the repository, after `rt staticlib capi`:
+ * From the root of the repository, after `rust/library`:
  *     cc -std=c99 -O2 -Iinclude examples/diff.c target/staticlib/libcapi.a -o diff
  *     ./diff APPROVED DELIVERED [K]
  */

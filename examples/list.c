@@ -5,7 +5,7 @@
  * Exit status 0 where it is accepted, 1 where it is refused, 2 where the file can't be read
  * or standard output can't be written.
  *
- * From the root of the repository, after `rt staticlib capi`:
+ * From the root of the repository, after `rust/library`:
  *     cc -std=c99 -O2 -Iinclude examples/list.c target/staticlib/libcapi.a -o list
  *     ./list FILE
  */

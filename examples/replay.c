@@ -7,7 +7,7 @@
  * Exit status 0 where nothing differs, 1 where something does or the parcel is refused, 2 where a
  * file can't be read or standard output can't be written.
  *
- * From the root of the repository, after `rt staticlib capi`:
+ * From the root of the repository, after `rust/library`:
  *     cc -std=c99 -O2 -Iinclude examples/replay.c target/staticlib/libcapi.a -o replay
  *     ./replay PARCEL REGISTERS UNIFORMS TRACE LIMIT
  */

@@ -3,7 +3,7 @@
  * that has any, with the opcode in hexadecimal and its row numbers in row order. Exit status 0,
  * or 2 where standard output can't be written.
  *
- * From the root of the repository, after `rt staticlib capi`:
+ * From the root of the repository, after `rust/library`:
  *     cc -std=c99 -O2 -Iinclude examples/rows.c target/staticlib/libcapi.a -o rows
  *     ./rows
  */

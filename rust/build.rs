@@ -9,7 +9,7 @@ fn main() {
     let library = folder.join("libcapi.a");
     println!("cargo:rerun-if-changed={}", library.display());
     if !library.is_file() {
-        eprintln!("{} is missing: build it with `rt staticlib capi`", library.display());
+        eprintln!("{} is missing: build it with `rust/library`", library.display());
         exit(1);
     }
     println!("cargo:rustc-link-search=native={}", folder.display());

@@ -32,7 +32,7 @@ def declared(name):
 
 def stands(name, texts):
     """Whether what is named is there; None where it isn't a name. A plain name may stand in any file that its line named before it."""
-    at = re.fullmatch(r'(\w+)/(specs|proofs)/((?:served/)?\w+)((?:\.[\w-]+)*)', name)
+    at = re.fullmatch(r'(\w+)/(specs|proofs)/((?:Served/)?\w+)((?:\.[\w-]+)*)', name)
     if at:
         texts.append(text_of(f'crates/{at[1]}/{at[2]}/{at[3]}.antt'))
         return texts[-1] and all(defines(texts[-1], part) for part in at[4].split('.')[1:])

@@ -1,4 +1,4 @@
-ghost use Rattle.std.specs.Prelude.{◌≡◌, ◌+◌, ◌*◌, ◌<◌, ◌≤◌, length, get_or};
+ghost use Rattle.std.specs.Prelude.{◌≡◌, ◌+◌, ◌*◌, ◌<◌, ◌≤◌, ◌++◌, length, take, drop, get_or};
 ghost use Rattle.bits.specs.Bytes.{little, little_bytes};
 
 // A byte as a wider number.
@@ -38,4 +38,13 @@ pub fn store64(w: u64, b: &mut [u8])
     b[5] = (w / 1099511627776 % 256) as u8;
     b[6] = (w / 281474976710656 % 256) as u8;
     b[7] = (w / 72057594037927936 % 256) as u8;
+}
+
+// Copies bytes to the front of a buffer that is long enough, and says how many there are.
+pub fn copy(from: &[u8], to: &mut [u8]) -> usize
+    requires { length from.now ≤ length to.old }
+    ensures { (result ≡ length from.now) × (to.new ≡ take (length from.now) from.now ++ drop (length from.now) to.old) }
+{
+    to[..from.len()].copy_from_slice(from);
+    from.len()
 }

@@ -5,7 +5,7 @@ ghost use Rattle.bits.specs.Halves.{both, either, minus_halves};
 use crate::sets::missing;
 
 // The registers whose low half is in the set, and those whose high half is.
-#[derive(Drop)]
+#[derive(Clone, Copy)]
 pub struct Halves {
     pub low: u64,
     pub high: u64,

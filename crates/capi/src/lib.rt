@@ -1,4 +1,6 @@
 // The exported functions for C and Rust: numbers, byte slices and fixed arrays only.
+#![tactic(auto)]
+
 ghost use Rattle.std.specs.Prelude.{◌≡◌, length};
 ghost use Rattle.bits.specs.Halves.{halves};
 ghost use Rattle.rows.specs.Names.{name_of};
@@ -40,13 +42,12 @@ use verifier::verify;
 use writer::answer::Written;
 
 // Room for any text and any name, with the 0 after it: VSP_TEXT and VSP_NAME of the header.
-const TEXT: usize = 534;
+pub const TEXT: usize = 534;
 
-const NAME: usize = 19;
+pub const NAME: usize = 19;
 
 // Verifies a container: 0 where it is accepted, else the finding as one number.
-#[unsafe(no_mangle)]
-pub extern "C" fn vsp_check(container: &[u8]) -> u64
+pub fn vsp_check(container: &[u8]) -> u64
     ensures answer { result ≡ verdict_code (verdict_of container.now) }
     ensures demand { Demand3At container.now (result ≡ 0) }
 {
@@ -59,14 +60,7 @@ pub extern "C" fn vsp_check(container: &[u8]) -> u64
 
 // Makes annotations of a version for words and an entry set: 2^16 times the number of sweeps, or the finding as one number, and then the
 // buffer keeps its bytes.
-#[unsafe(no_mangle)]
-pub extern "C" fn vsp_infer(
-    version: u64,
-    words: &[u8],
-    low: u64,
-    high: u64,
-    annotations: &mut [u8],
-) -> u64
+pub fn vsp_infer(version: u64, words: &[u8], low: u64, high: u64, annotations: &mut [u8]) -> u64
     ensures answer { result ≡ infer_code (infer_outcome version words.now (halves low high) annotations.old) }
     ensures kept { annotations.new ≡ infer_buffer version words.now (halves low high) annotations.old }
     ensures asked { AsAsked version words.now (halves low high) annotations.old (infer_outcome version words.now (halves low high) annotations.old) annotations.new }
@@ -80,13 +74,7 @@ pub extern "C" fn vsp_infer(
 
 // Line k of the list of differences between two containers: 0 and the line's three numbers; 255 where the list has fewer, or which
 // container cannot be compared as one number, and then the numbers stay.
-#[unsafe(no_mangle)]
-pub extern "C" fn vsp_diff_line<'a>(
-    first: &'a [u8],
-    second: &'a [u8],
-    k: usize,
-    line: &mut [u64; 3],
-) -> u64
+pub fn vsp_diff_line<'a>(first: &'a [u8], second: &'a [u8], k: usize, line: &mut [u64; 3]) -> u64
     ensures answer { result ≡ line_code (line_outcome first.now second.now k) }
     ensures kept { line.new ≡ line_after (line_outcome first.now second.now k) line.old }
 {
@@ -103,12 +91,7 @@ pub extern "C" fn vsp_diff_line<'a>(
 
 // The whole list, three numbers a line at the front of a buffer for any list: 2^16 times the number of lines, or which container cannot be
 // compared as one number, and then the buffer keeps its numbers.
-#[unsafe(no_mangle)]
-pub extern "C" fn vsp_diff_lines<'a>(
-    first: &'a [u8],
-    second: &'a [u8],
-    lines: &mut [u64; MOST_NUMBERS],
-) -> u64
+pub fn vsp_diff_lines<'a>(first: &'a [u8], second: &'a [u8], lines: &mut [u64; MOST_NUMBERS]) -> u64
     ensures answer { result ≡ list_code (list_outcome first.now second.now) }
     ensures kept { lines.new ≡ list_buffer first.now second.now lines.old }
 {
@@ -121,8 +104,7 @@ pub extern "C" fn vsp_diff_lines<'a>(
 
 // Replays a container on 64 registers, which are changed in place, with some uniforms, against a recorded trace, at most `limit` steps: what
 // stopped the run as one number, or the finding as one number, and then the registers stay.
-#[unsafe(no_mangle)]
-pub extern "C" fn vsp_replay<'a>(
+pub fn vsp_replay<'a>(
     container: &'a [u8],
     registers: &mut [u32; 64],
     uniforms: &'a [u32],
@@ -140,8 +122,7 @@ pub extern "C" fn vsp_replay<'a>(
 }
 
 // Reads a word into a form: 0, or the refusal as one number, and then the form keeps its bytes.
-#[unsafe(no_mangle)]
-pub extern "C" fn vsp_read(word: &[u8], form: &mut [u8; 32]) -> u32
+pub fn vsp_read(word: &[u8], form: &mut [u8; 32]) -> u32
     ensures answer { result ≡ outcome_code (read word.now) }
     ensures kept { form.new ≡ form_after (read word.now) form.old }
 {
@@ -156,8 +137,7 @@ pub extern "C" fn vsp_read(word: &[u8], form: &mut [u8; 32]) -> u32
 }
 
 // Writes a form's word: 0, or the refusal as one number, and then the word's buffer keeps its bytes.
-#[unsafe(no_mangle)]
-pub extern "C" fn vsp_write(form: &[u8; 32], word: &mut [u8]) -> u32
+pub fn vsp_write(form: &[u8; 32], word: &mut [u8]) -> u32
     ensures answer { result ≡ outcome_code (write_form form.now word.old) }
     ensures kept { word.new ≡ word_after form.now word.old }
 {
@@ -179,8 +159,7 @@ pub extern "C" fn vsp_write(form: &[u8; 32], word: &mut [u8]) -> u32
 }
 
 // Makes a row's default in a form: 0, or the refusal as one number, and then the form keeps its bytes.
-#[unsafe(no_mangle)]
-pub extern "C" fn vsp_fresh(row: usize, form: &mut [u8; 32]) -> u32
+pub fn vsp_fresh(row: usize, form: &mut [u8; 32]) -> u32
     ensures answer { result ≡ outcome_code (fresh row) }
     ensures kept { form.new ≡ form_after (fresh row) form.old }
 {
@@ -195,8 +174,7 @@ pub extern "C" fn vsp_fresh(row: usize, form: &mut [u8; 32]) -> u32
 }
 
 // The k-th row that has an opcode, from 0 in row order, or 255.
-#[unsafe(no_mangle)]
-pub extern "C" fn vsp_row_of(opcode: u64, k: u64) -> u32
+pub fn vsp_row_of(opcode: u64, k: u64) -> u32
     ensures { result ≡ row_code (row_with opcode k) }
 {
     let found = row_with(opcode, k);
@@ -207,8 +185,7 @@ pub extern "C" fn vsp_row_of(opcode: u64, k: u64) -> u32
 }
 
 // Puts the text of a form and a 0 after it at the front of a buffer for any text: the length of the text.
-#[unsafe(no_mangle)]
-pub extern "C" fn vsp_text(form: &[u8; 32], text: &mut [u8; TEXT]) -> usize
+pub fn vsp_text(form: &[u8; 32], text: &mut [u8; TEXT]) -> usize
     ensures answer { result ≡ length (form_text form.now) }
     ensures kept { text.new ≡ text_after (form_text form.now) text.old }
 {
@@ -220,8 +197,7 @@ pub extern "C" fn vsp_text(form: &[u8; 32], text: &mut [u8; TEXT]) -> usize
 
 // Puts the name of a row and a 0 after it at the front of a buffer for any name: the length of the name, or 0 where there is no such row,
 // and then the buffer keeps its bytes.
-#[unsafe(no_mangle)]
-pub extern "C" fn vsp_name(row: usize, name: &mut [u8; NAME]) -> usize
+pub fn vsp_name(row: usize, name: &mut [u8; NAME]) -> usize
     ensures answer { result ≡ length (name_of row) }
     ensures kept { name.new ≡ name_after row name.old }
 {

@@ -24,7 +24,7 @@ use Rattle.record.specs.declared.instruction.Instruction.{Instruction}
 use Rattle.record.specs.Defaults.{fresh, default_instruction}
 use Rattle.record.proofs.NumberedLaws as record_numbers
 use Rattle.reading.proofs.NumberedLaws as reader_numbers
-use Rattle.record.specs.contracts.instruction.Instruction.fresh as fresh_call
+use Rattle.record.proofs.instruction.Instruction.fresh as fresh_call
 use Rattle.reading.specs.Reader.{read}
 use Rattle.reading.specs.Stray.{NamesStray}
 use Rattle.reading.proofs.StrayNamed as stray_named

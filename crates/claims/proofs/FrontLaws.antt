@@ -1,15 +1,13 @@
 -- Two inputs of which one is longer than any container are compared by their fronts. Assumes nothing.
 use mathlib.Core.Path.{◌≡◌, refl, sym, ap, ap₂, ◌∙◌}
 use mathlib.Core.List.{List}
-use mathlib.Core.Option.{Option}
 use Prim.Native.Nat.{ℕ}
 use lib.ListN.{take}
 use Rattle.bits.specs.Lists.{kth}
-use Rattle.bits.specs.Outcomes.{Outcome, gives, refuses, passes, ◌then◌}
+use Rattle.bits.specs.Outcomes.{gives, refuses, ◌then◌}
 use Rattle.bits.proofs.OutcomeLaws.{then_refused}
 use Rattle.safety.specs.Verdict.{Judgement, all_read}
 use Rattle.safety.proofs.ReadLaws.{formed}
-use Rattle.differences.specs.declared.line.Line.{Line}
 use Rattle.differences.specs.declared.answer.Side.TheVariants.{First, Second}
 use Rattle.differences.specs.declared.answer.Unread.{Unread}
 use Rattle.differences.specs.Differences.{differences}

@@ -1,1 +1,2 @@
 // What is proved, in one place: proofs/Claims.antt. No code.
+#![tactic(auto)]

@@ -4,7 +4,7 @@ use Rattle.std.specs.Prelude.{◌≡◌, List, [], ◌∷◌, ◌++◌, map, ℕ
 use Rattle.bits.specs.Bytes.{little_bytes}
 use Rattle.bits.specs.Outcomes.{Outcome, gives, refuses}
 use Rattle.rows.specs.Rows.{row_of}
-use Rattle.rows.specs.Sources.{Meaning, meaning, register_read, register_released, uniform, immediate, special, warp_id, low_word, high_word_lem}
+use Rattle.rows.specs.Sources.{Meaning, meaning, register_read, register_released, uniform, immediate, special, warp_id, low_word, high_word}
 use Rattle.record.specs.Lists.{source_list, sources_of, modifiers_of}
 use Rattle.record.specs.Answers.{refusal}
 use Rattle.reading.specs.Reader.{read}
@@ -66,7 +66,7 @@ examples =
     ∷ refused_with 0x0091C100000000E0 7 0
     ∷ refused_with 0x0091C100000000E2 7 0
     ∷ reads_as 0x0091C100000000E4 (instruction 30 0 0 1 3 0xE4 0 (modifiers 0 0 0) (pos 0)) (special warp_id low_word ∷ [])
-    ∷ reads_as 0x0091C100000000E5 (instruction 30 0 0 1 3 0xE5 0 (modifiers 0 0 0) (pos 0)) (special warp_id high_word_lem ∷ [])
+    ∷ reads_as 0x0091C100000000E5 (instruction 30 0 0 1 3 0xE5 0 (modifiers 0 0 0) (pos 0)) (special warp_id high_word ∷ [])
     ∷ []
 
 -- what the sources of the record read mean

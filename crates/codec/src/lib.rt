@@ -1,4 +1,6 @@
 // Reading and writing words, with what demand 2 says of both.
+#![tactic(auto)]
+
 ghost use Rattle.std.specs.Prelude.{◌≡◌};
 ghost use Rattle.reading.specs.Reader.{read};
 ghost use Rattle.reader.specs.Answers.{reading};

@@ -1,5 +1,5 @@
 -- Texts as C has them: with a byte 0 after the last one.
-use Rattle.std.specs.Prelude.{List, [], ◌∷◌, ◌++◌, ℕ, suc, ltb, length, drop}
+use Rattle.std.specs.Prelude.{List, ◌∷◌, ◌++◌, ℕ, suc, ltb, length, drop}
 use Rattle.bits.specs.Fields.{choose}
 use Rattle.rows.specs.Rows.{row_count}
 use Rattle.rows.specs.Names.{name_of}

@@ -1,4 +1,6 @@
 // What the calls from C answer: the numbers and the texts, what the header promises of them, and refusals as one number.
+#![tactic(auto)]
+
 ghost use Rattle.std.specs.Prelude.{◌≡◌, ◌<◌, ◌≤◌};
 ghost use Rattle.codes.specs.Codes.{code, half_number, packed, unread_code};
 

@@ -6,7 +6,7 @@ use crate::layout::WORD_LENGTH;
 
 // The lengths of a header and of an annotation in bytes; how far after the set of the low halves that of the high halves stands, in both;
 // and the most instructions.
-#[derive(Drop)]
+#[derive(Clone, Copy)]
 pub struct Format {
     pub header: usize,
     pub annotation: usize,

@@ -12,6 +12,9 @@ use bits::halves::Halves;
 // Where the entry set begins.
 const ENTRY: usize = 8;
 
+// The fewest instructions of a container.
+const FEWEST: usize = 1;
+
 // The numbers of the refusals, by reason.
 const TOO_SHORT: u8 = 12;
 
@@ -26,7 +29,7 @@ const WRONG_COUNT: u8 = 12;
 const WRONG_LENGTH: u8 = 12;
 
 // The version, how many instructions there are, and the entry set: the halves of registers that are defined before the first.
-#[derive(Drop)]
+#[derive(Clone, Copy)]
 pub struct Header {
     pub version: u64,
     pub count: usize,
@@ -34,7 +37,7 @@ pub struct Header {
 }
 
 // What opening finds: the header, or the number of a refusal.
-#[derive(Drop)]
+#[derive(Clone, Copy)]
 pub enum Opening {
     Opened(Header),
     Refused(u8),
@@ -94,7 +97,7 @@ pub fn open(bytes: &[u8]) -> Opening
         return Opening::Refused(WRONG_ZERO);
     }
     let count = number16(bytes[6], bytes[7]) as usize;
-    if count < 1 {
+    if count < FEWEST {
         return Opening::Refused(WRONG_COUNT);
     }
     let f = format_of(version);

@@ -1,4 +1,6 @@
 // The instructions of a program, made ready once, before a run.
+#![tactic(auto)]
+
 ghost use Rattle.std.specs.Prelude.{◌≡◌, ◌<◌};
 ghost use Rattle.safety.specs.Program.{Worded, instruction_at};
 ghost use Rattle.operations.specs.Served.Operations.{operation_of};

@@ -11,7 +11,7 @@ use diffparts::parts::word;
 use diffparts::single::{Single, larger, line_of_part, part_count, smaller};
 
 // Where a walk is: to be told are the fields from `field` on of the instruction `index`, and after them the parts from `next` on.
-#[derive(Drop)]
+#[derive(Clone, Copy)]
 pub struct At {
     pub index: usize,
     pub field: usize,
@@ -19,7 +19,7 @@ pub struct At {
 }
 
 // The next line and where the walk is after it, or the end.
-#[derive(Drop)]
+#[derive(Clone, Copy)]
 pub enum Step {
     Told(Line, At),
     End,

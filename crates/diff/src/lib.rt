@@ -1,4 +1,6 @@
 // The comparison of two containers (the paper's compare): what differs between them, line by line.
+#![tactic(auto)]
+
 ghost use Rattle.std.specs.Prelude.{◌≡◌};
 ghost use Rattle.bits.specs.Lists.{kth};
 ghost use Rattle.bits.specs.Outcomes.{gives};

@@ -1,5 +1,7 @@
 // Reads two containers from standard input, and writes what differs between them to standard output, line by line. A program here has no exit
 // status, so standard error tells which of them does not open or read, and why, or what failed.
+#![tactic(auto)]
+
 ghost use Rattle.std.specs.Prelude.{◌≡◌, ◌+◌, ◌-◌, ◌≤◌, min, length, drop};
 ghost use Rattle.std.proofs.Math.Option.{some};
 ghost use Rattle.bits.specs.Lists.{kth};
@@ -23,6 +25,7 @@ use diffparts::single::{Single, version_line};
 use difftext::write_line;
 use input::Input;
 use safety::verdict::Verdict;
+use std::io::Read;
 use verdictline::{LONGEST_VERDICT, write_verdict};
 use view::open_count;
 
@@ -34,22 +37,22 @@ const CONTAINER: usize = LONGEST_CONTAINER + 1;
 const MOST: usize = LENGTH_LENGTH + 2 * CONTAINER;
 
 // Reads two such parts and the length, or all where there is less.
-fn read_part(buffer: &mut [u8]) -> Input
+fn read_part(reader: &mut impl Read, buffer: &mut [u8]) -> Input
     requires { length buffer.old ≡ most_read }
     ensures { Within result most_read }
 {
-    input::fill(buffer)
+    input::fill(reader, buffer)
 }
 
-fn tell(text: &[u8]) -> bool {
-    io::write_all(libc::STDERR_FILENO, text)
+fn tell(errors: &impl Print, text: &[u8]) -> bool {
+    errors.write_all(text).is_ok()
 }
 
 // The one way to standard output: the text of line k of what differs. It is written until all of it is, or until a write fails.
-fn send(bytes: &[u8], input: Input, k: usize, line: Line, text: &[u8]) -> bool
+fn send(output: &impl Print, bytes: &[u8], input: Input, k: usize, line: Line, text: &[u8]) -> bool
     requires { (input ≡ Bytes (length bytes.now)) × (kth (listed bytes.now) k ≡ some line) × (text.now ≡ line_text line) }
 {
-    io::write_all(libc::STDOUT_FILENO, text)
+    output.write_all(text).is_ok()
 }
 
 // So many lines are all that there are.
@@ -60,16 +63,17 @@ fn all_sent(bytes: &[u8], k: usize) -> bool
 }
 
 // Sends line k.
-fn send_line(bytes: &[u8], input: Input, k: usize, line: Line) -> bool
+fn send_line(output: &impl Print, bytes: &[u8], input: Input, k: usize, line: Line) -> bool
     requires { (input ≡ Bytes (length bytes.now)) × (kth (listed bytes.now) k ≡ some line) }
 {
     let mut text = [0u8; difftext::LONGEST];
     let n = write_line(line, &mut text);
-    send(bytes, input, k, line, &text[..n])
+    send(output, bytes, input, k, line, &text[..n])
 }
 
 // Sends the lines from line `from` on in turn, those of what the containers hold, until all are sent or a write fails.
 fn walk<'a>(
+    output: &impl Print,
     bytes: &'a [u8],
     input: Input,
     first: &'a [u8],
@@ -87,7 +91,7 @@ fn walk<'a>(
     while k < MOST_LINES {
         match advance(first, n, second, m, at, xs, ys) {
             Step::Told(line, next) => {
-                if !send_line(bytes, input, k, line) {
+                if !send_line(output, bytes, input, k, line) {
                     return false;
                 }
                 at = next;
@@ -103,6 +107,7 @@ fn walk<'a>(
 
 // Sends all lines: first that of the versions, where they differ.
 fn send_all<'a>(
+    output: &impl Print,
     bytes: &'a [u8],
     input: Input,
     first: &'a [u8],
@@ -116,37 +121,51 @@ fn send_all<'a>(
 {
     match version_line(first, second) {
         Single::Told(line) => {
-            if !send_line(bytes, input, 0, line) {
+            if !send_line(output, bytes, input, 0, line) {
                 return false;
             }
-            walk(bytes, input, first, n, second, m, 1, xs, ys)
+            walk(output, bytes, input, first, n, second, m, 1, xs, ys)
         }
-        Single::Nothing => walk(bytes, input, first, n, second, m, 0, xs, ys),
+        Single::Nothing => walk(output, bytes, input, first, n, second, m, 0, xs, ys),
     }
 }
 
 // Lists what differs between two containers that open and read.
-fn list<'a>(bytes: &'a [u8], input: Input, first: &'a [u8], second: &'a [u8])
+fn list<'a>(
+    output: &impl Print,
+    errors: &impl Print,
+    bytes: &'a [u8],
+    input: Input,
+    first: &'a [u8],
+    second: &'a [u8],
+)
     requires { Parted input bytes.now first.now second.now × Both first.now second.now }
 {
     let mut xs = [0; FIELDS];
     let mut ys = [0; FIELDS];
     let n = open_count(first);
     let m = open_count(second);
-    if !send_all(bytes, input, first, n, second, m, &mut xs, &mut ys) {
-        tell(b"differ: standard output cannot be written\n");
+    if !send_all(output, bytes, input, first, n, second, m, &mut xs, &mut ys) {
+        tell(errors, b"differ: standard output cannot be written\n");
     }
 }
 
-fn tell_refusal<'a>(bytes: &'a [u8], input: Input, u: Unread, side: &'a [u8], line: &'a [u8])
+fn tell_refusal<'a>(
+    errors: &impl Print,
+    bytes: &'a [u8],
+    input: Input,
+    u: Unread,
+    side: &'a [u8],
+    line: &'a [u8],
+)
     requires { (input ≡ Bytes (length bytes.now)) × (ready bytes.now ≡ refuses u) × (side.now ≡ side_line u.side) × (line.now ≡ verdict_line (refuses u.finding)) }
 {
-    tell(side);
-    tell(line);
+    tell(errors, side);
+    tell(errors, line);
 }
 
 // Tells which one does not open or read, and why.
-fn refuse(bytes: &[u8], input: Input, u: Unread)
+fn refuse(errors: &impl Print, bytes: &[u8], input: Input, u: Unread)
     requires { (input ≡ Bytes (length bytes.now)) × (ready bytes.now ≡ refuses u) }
 {
     let side = u.side;
@@ -155,17 +174,24 @@ fn refuse(bytes: &[u8], input: Input, u: Unread)
     let mut line = [0u8; LONGEST_VERDICT];
     let n = write_verdict(v, &mut line);
     match side {
-        Side::First => tell_refusal(bytes, input, u, b"differ: first\n", &line[..n]),
-        Side::Second => tell_refusal(bytes, input, u, b"differ: second\n", &line[..n]),
+        Side::First => tell_refusal(errors, bytes, input, u, b"differ: first\n", &line[..n]),
+        Side::Second => tell_refusal(errors, bytes, input, u, b"differ: second\n", &line[..n]),
     }
 }
 
-fn compare<'a>(bytes: &'a [u8], input: Input, first: &'a [u8], second: &'a [u8])
+fn compare<'a>(
+    output: &impl Print,
+    errors: &impl Print,
+    bytes: &'a [u8],
+    input: Input,
+    first: &'a [u8],
+    second: &'a [u8],
+)
     requires { Parted input bytes.now first.now second.now }
 {
     match both_read(first, second) {
-        Ready::Both => list(bytes, input, first, second),
-        Ready::Unread(u) => refuse(bytes, input, u),
+        Ready::Both => list(output, errors, bytes, input, first, second),
+        Ready::Unread(u) => refuse(errors, bytes, input, u),
     }
 }
 
@@ -182,24 +208,33 @@ fn first_end(bytes: &[u8]) -> usize
 }
 
 // Compares what was read. An input that is too short for a length has two empty containers.
-fn report(bytes: &[u8], input: Input)
+fn report(output: &impl Print, errors: &impl Print, bytes: &[u8], input: Input)
     requires { input ≡ Bytes (length bytes.now) }
 {
     if bytes.len() < LENGTH_LENGTH {
-        compare(bytes, input, &bytes[..0], &bytes[..0]);
+        compare(output, errors, bytes, input, &bytes[..0], &bytes[..0]);
         return;
     }
     let end = first_end(bytes);
-    compare(bytes, input, &bytes[LENGTH_LENGTH..end], &bytes[end..]);
+    compare(
+        output,
+        errors,
+        bytes,
+        input,
+        &bytes[LENGTH_LENGTH..end],
+        &bytes[end..],
+    );
 }
 
-fn main() {
+fn main(rt: HostRuntime) {
+    let output = rt.stdout();
+    let errors = rt.stderr();
     let mut buffer = [0u8; MOST];
-    let input = read_part(&mut buffer);
+    let input = read_part(&mut rt.stdin(), &mut buffer);
     match input {
-        Input::Bytes(n) => report(&buffer[..n], input),
+        Input::Bytes(n) => report(&output, &errors, &buffer[..n], input),
         Input::Failed => {
-            tell(b"differ: standard input cannot be read\n");
+            tell(&errors, b"differ: standard input cannot be read\n");
         }
     }
 }

@@ -5,7 +5,7 @@ ghost use Rattle.differences.specs.declared.line.What.TheVariants.{Row as row};
 
 // What differs: a field of an instruction (a source by its index, a modifier by its lowest bit), an instruction that only one has, a set of
 // the entry sets or of an annotation (the paper's note) by its number, or the versions.
-#[derive(Drop)]
+#[derive(Clone, Copy)]
 pub enum What {
     Row,
     Page,
@@ -28,7 +28,7 @@ pub const LOW_SET: u8 = 1;
 pub const HIGH_SET: u8 = 2;
 
 // A line: what differs, at which instruction, and what the first and the second container have there.
-#[derive(Drop)]
+#[derive(Clone, Copy)]
 pub struct Line {
     pub what: What,
     pub index: usize,

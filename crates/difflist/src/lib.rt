@@ -1,4 +1,6 @@
 // The comparison of two containers as a whole: the list of what differs, at once.
+#![tactic(auto)]
+
 ghost use Rattle.std.specs.Prelude.{◌≡◌};
 ghost use Rattle.differences.specs.Answers.{listed_outcome, list_outcome, list_buffer};
 

@@ -9,7 +9,7 @@ use bits::halves::Halves;
 use differences::line::{HIGH_SET, LOW_SET, Line, ONE_SET, What};
 
 // The line of a part, if it has one.
-#[derive(Drop)]
+#[derive(Clone, Copy)]
 pub enum Single {
     Told(Line),
     Nothing,

@@ -1,4 +1,6 @@
 // The text of a line of a comparison, made in a buffer that the caller lends.
+#![tactic(auto)]
+
 ghost use Rattle.std.specs.Prelude.{◌≤◌, length};
 ghost use Rattle.text.specs.Text.{Put};
 ghost use Rattle.linetext.specs.Lines.{line_text, longest_text};

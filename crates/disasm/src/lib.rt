@@ -1,4 +1,6 @@
 // The text of a decoded instruction, in the syntax of Mesa's Valhall disassembler, made in a buffer that the caller lends.
+#![tactic(auto)]
+
 ghost use Rattle.std.specs.Prelude.{◌≡◌, ◌≤◌, length};
 ghost use Rattle.rows.specs.Names.{name_width};
 ghost use Rattle.rows.specs.Rows.{row_of};

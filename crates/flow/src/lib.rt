@@ -1,4 +1,6 @@
 // Where an instruction goes, which halves of registers it leaves defined, and whether the annotations bear both out.
+#![tactic(auto)]
+
 ghost use Rattle.std.specs.Prelude.{◌≡◌, ◌+◌, ◌<◌, pos, ◌+ℤ◌};
 ghost use Rattle.bits.specs.Outcomes.{each};
 ghost use Rattle.record.specs.Registers.{kills as kills-of};

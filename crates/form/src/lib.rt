@@ -1,4 +1,6 @@
 // The 32-byte form of a decoded instruction.
+#![tactic(auto)]
+
 ghost use Rattle.std.specs.Prelude.{◌≡◌, ◌<◌};
 ghost use Rattle.bits.specs.Signed.{unsigned, signed};
 ghost use Rattle.form.specs.Form.{form_of, instruction_of_form, padded};
@@ -50,7 +52,7 @@ pub fn form_of(i: Instruction) -> [u8; 32]
     f[25] = (n / 256 % 256) as u8;
     f[26] = (n / 65536 % 256) as u8;
     f[27] = (n / 16777216 % 256) as u8;
-    bytes::copy(&m, &mut f[9..23]);
+    bits::bytes::copy(&m, &mut f[9..23]);
     f
 }
 
@@ -66,7 +68,7 @@ pub fn instruction_of_form(f: [u8; 32]) -> Instruction
     ensures { result ≡ instruction_of_form f }
 {
     let mut modifiers = [0u8; MODIFIERS];
-    bytes::copy(&f[9..23], &mut modifiers);
+    bits::bytes::copy(&f[9..23], &mut modifiers);
     let n = wide(f[24]) + 256 * (wide(f[25]) + 256 * (wide(f[26]) + 256 * wide(f[27])));
     Instruction {
         row: f[0],

@@ -203,7 +203,7 @@ module _ (v : ℕ) (words : List ℕ) (entry : Halves) (low : entry.low < 2 ^ 64
           let m : machine_of (container_bytes v entry words (infer_buffer v words entry buffer)) ≡ machine (with_notes offer) =
           ap (λ (x : List ℕ). machine_of (container_bytes v entry words x)) left
           ∙ ap machine (packed_program v entry words offer d.0 (offer_fits d.1) low high) in
-          rw m (offer_exact d.0 d.1.some (rw m at reached))
+          subst Exact (sym m) (offer_exact d.0 d.1.some (subst AllReached m reached))
 
     kept : (f : Finding) → answer ≡ refuses f → infer_buffer v words entry buffer ≡ buffer
     unfolding infer_buffer

@@ -1,4 +1,6 @@
 // Inference of annotations (the paper's maker of notes): from a version, words and an entry set to the annotations that name the most.
+#![tactic(auto)]
+
 ghost use Rattle.std.specs.Prelude.{◌≡◌, true, ◌*◌, ◌<◌, length};
 ghost use Rattle.container.specs.Formats.{known, annotation_length};
 ghost use Rattle.bits.specs.Outcomes.{refuses};
@@ -136,7 +138,7 @@ fn hand_over<'a>(
     let v = judge_words(version, words, proposal, n, entry);
     match v {
         Verdict::Accepted => {
-            bytes::copy(proposal, annotations);
+            bits::bytes::copy(proposal, annotations);
             return Inference::Proposed(k);
         }
         Verdict::Refused(_) => {

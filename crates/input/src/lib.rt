@@ -1,31 +1,39 @@
 // Standard input, read into a buffer that the caller lends until it is full or the input ends.
+#![tactic(auto)]
+
+mod partial;
+
 ghost use Rattle.std.specs.Prelude.{◌≡◌, length};
 ghost use Rattle.input.specs.declared.Input.TheVariants.{Bytes};
 ghost use Rattle.input.specs.Input.{taken, Within};
 
+pub use partial::read_full;
+use std::io;
+use std::io::Read;
+
 // How many bytes were read, or that a read failed.
-#[derive(Drop)]
+#[derive(Clone, Copy)]
 pub enum Input {
     Bytes(usize),
     Failed,
 }
 
-// What one read gave: a negative answer is a failure.
-fn input_of(got: isize, buffer: &[u8]) -> Input
-    ensures { result ≡ taken got (length buffer.now) }
+// What one read gave: an error is a failure.
+fn input_of(got: io::Result<usize>) -> Input
+    ensures { result ≡ taken got }
 {
-    if got < 0 {
-        return Input::Failed;
+    match got {
+        Ok(n) => Input::Bytes(n),
+        Err(_) => Input::Failed,
     }
-    Input::Bytes(io::count(got, buffer))
 }
 
 // One read; no bytes at the end of the input.
-fn read_some(buffer: &mut [u8]) -> Input
+fn read_some<R: Read>(reader: &mut R, buffer: &mut [u8]) -> Input
     ensures { Within result (length buffer.old) }
 {
-    let got = libc::read(libc::STDIN_FILENO, buffer);
-    input_of(got, buffer)
+    let got = reader.read(buffer);
+    input_of(got)
 }
 
 // So many bytes are all that there are: the last read gave none.
@@ -45,12 +53,12 @@ fn full(at: usize, room: usize) -> Input
 }
 
 // Reads until the buffer is full or the input ends.
-pub fn fill(buffer: &mut [u8]) -> Input
+pub fn fill<R: Read>(reader: &mut R, buffer: &mut [u8]) -> Input
     ensures { Within result (length buffer.old) }
 {
     let mut at = 0;
     while at < buffer.len() {
-        let more = read_some(&mut buffer[at..]);
+        let more = read_some(reader, &mut buffer[at..]);
         match more {
             Input::Bytes(n) => {
                 if n == 0 {

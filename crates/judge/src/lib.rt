@@ -1,4 +1,6 @@
 // What a word gets, judged by the line of the row that it fits. It is compared with no other line.
+#![tactic(auto)]
+
 ghost use Rattle.std.specs.Prelude.{◌≡◌, true, ℕ, ◌+◌, ◌*◌, ◌/◌, ◌<◌};
 ghost use Rattle.std.specs.Int.Bits.{bit_and};
 ghost use Rattle.bits.specs.Fields.{bits};
@@ -16,7 +18,7 @@ use record::answer::Refusal;
 use sources::source_ok;
 
 // What is known of a word that reads: its row's shape, with the row number from bit 48 up; its sources; the widths of its row's modifiers.
-#[derive(Drop)]
+#[derive(Clone, Copy)]
 pub struct Fit {
     pub shape: u64,
     pub sources: u64,
@@ -25,11 +27,14 @@ pub struct Fit {
 
 // What judging a word gives. A refusal is number + 2^8 place: as one number it is stored and loaded at one width, which is what the
 // processor can forward.
-#[derive(Drop)]
+#[derive(Clone, Copy)]
 pub enum Judged {
     Fits(Fit),
     Refused(u64),
 }
+
+// The half mask that names no half, which is refused.
+const NO_HALF: u64 = 0;
 
 // The flows that are not reserved.
 const FLOWS: u64 = 0xA7FF;
@@ -132,7 +137,7 @@ fn judge_fields(l: Line, w: u64) -> Judged
     if !has(FLOWS, bits_at(w, 59, 4)) {
         return refuse(4, 0);
     }
-    if bits_at(w | l.shape, 46, 2) == 0 {
+    if bits_at(w | l.shape, 46, 2) == NO_HALF {
         return refuse(5, 0);
     }
     if !modifiers_ok(l, w) {

@@ -1,9 +1,9 @@
 -- What the row of a word lacks where a bit stands, and the number of that row. Assumes nothing.
 use mathlib.Core.Path.{◌≡◌, refl, ap, ◌∙◌, subst}
 use mathlib.Core.Bool.{Bool, true, false, ◌||◌}
-use mathlib.Core.List.{List, ◌++◌}
+use mathlib.Core.List.{◌++◌}
 use mathlib.Core.Option.{none, some, map, none-ne-some}
-use Prim.Native.Nat.{ℕ, ◌+◌, ◌*◌, ◌/◌, ◌^◌, ◌<◌, ◌≤◌}
+use Prim.Native.Nat.{ℕ, ◌/◌, ◌<◌, ◌≤◌}
 use native.Mathlib.Omega.{arith}
 use borrow.Author.Tests.{lt-ltb, le-ltb, ltb-false}
 use lib.Dec.{T, ltb}
@@ -12,7 +12,7 @@ use Rattle.bits.proofs.Every.{every, at, T_true}
 use Rattle.rows.specs.Names.{ascii}
 use Rattle.rows.specs.Rows.{Row, rows, row_of, no_row, row_count}
 use Rattle.rows.specs.Layout.{places, slots, modifier_at, find}
-use Rattle.rows.specs.Served.Table.{shape, upto}
+use Rattle.rows.specs.Served.Table.{upto}
 use Rattle.rows.proofs.TableLaws.{in_table}
 use Rattle.rows.proofs.SetOfLaws.{upto_at}
 use Rattle.rows.proofs.FindLaws.{find_le}

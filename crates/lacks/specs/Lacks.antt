@@ -1,5 +1,5 @@
 -- What a row lacks where a bit stands that it leaves unassigned (01, The frame; 02, Item 5): which bit is stray, and what it would be for.
-use Rattle.std.specs.Prelude.{◌≡◌, Bool, true, false, ◌&&◌, not, List, [], ◌∷◌, ◌++◌, ℕ, ◌+◌, ◌*◌, ◌/◌, ◌<◌, eqb, leb, ltb}
+use Rattle.std.specs.Prelude.{◌≡◌, Bool, true, false, ◌&&◌, not, List, [], ◌∷◌, ◌++◌, ℕ, ◌*◌, ◌/◌, ◌<◌, eqb, leb, ltb}
 use Rattle.bits.specs.Fields.{choose, slot, inside, assigned}
 use Rattle.rows.specs.Kinds.{width}
 use Rattle.rows.specs.Names.{ascii, name_of}

@@ -1,4 +1,6 @@
 // Which bit of a word is 1 and unassigned, and what its row lacks there.
+#![tactic(auto)]
+
 ghost use Rattle.std.specs.Prelude.{◌≡◌, ◌≤◌, length};
 ghost use Rattle.rows.specs.Rows.{rows};
 ghost use Rattle.rows.specs.Layout.{find};

@@ -1,4 +1,6 @@
 // The name that 002 has for the instruction of a word, where the scope leaves it out.
+#![tactic(auto)]
+
 mod table;
 
 ghost use Rattle.std.specs.Prelude.{◌≡◌, ◌≤◌, length};

@@ -1,4 +1,6 @@
 // The pieces of a line, each at the front of a buffer; the answer is how many bytes it has.
+#![tactic(auto)]
+
 ghost use Rattle.std.specs.Prelude.{◌≡◌, ◌+◌, ◌*◌, ◌≤◌, length};
 ghost use Rattle.rows.specs.Names.{name_width, names as all_names};
 ghost use Rattle.text.specs.Text.{Put};

@@ -1,5 +1,7 @@
 // Reads a container from standard input and writes its listing to standard output: a line for each instruction where all words read, then
 // the verdict. A program here has no exit status, so what fails is told on standard error.
+#![tactic(auto)]
+
 ghost use Rattle.std.specs.Prelude.{◌≡◌, length};
 ghost use Rattle.input.specs.declared.Input.TheVariants.{Bytes};
 ghost use Rattle.input.specs.Input.{Within};
@@ -9,54 +11,57 @@ ghost use Rattle.listing.specs.Listing.{listing};
 use container::layout::LONGEST_CONTAINER;
 use input::Input;
 use listing::LONGEST;
+use std::io::Read;
 
 // One byte more than the longest container: what is longer is refused by this part alone.
 const MOST: usize = LONGEST_CONTAINER + 1;
 
 // Reads that part, or all where there is less.
-fn read_part(buffer: &mut [u8]) -> Input
+fn read_part(reader: &mut impl Read, buffer: &mut [u8]) -> Input
     requires { length buffer.old ≡ read_length }
     ensures { Within result read_length }
 {
-    input::fill(buffer)
+    input::fill(reader, buffer)
 }
 
-fn complain(text: &[u8]) -> bool {
-    io::write_all(libc::STDERR_FILENO, text)
+fn complain(errors: &impl Print, text: &[u8]) -> bool {
+    errors.write_all(text).is_ok()
 }
 
 // The one way to standard output: the text is the listing of the bytes. It is written until all of it is, or until a write fails.
-fn send(bytes: &[u8], text: &[u8]) -> bool
+fn send(output: &impl Print, bytes: &[u8], text: &[u8]) -> bool
     requires { text.now ≡ listing bytes.now }
 {
-    io::write_all(libc::STDOUT_FILENO, text)
+    output.write_all(text).is_ok()
 }
 
 // Writes the listing of the bytes, which are as many as were read.
-fn list(bytes: &[u8], input: Input) -> bool
+fn list(output: &impl Print, bytes: &[u8], input: Input) -> bool
     requires { input ≡ Bytes (length bytes.now) }
 {
     let mut out = [0u8; LONGEST];
     let n = listing::write(bytes, &mut out);
-    send(bytes, &out[..n])
+    send(output, bytes, &out[..n])
 }
 
 // Lists what was read.
-fn report(bytes: &[u8], input: Input)
+fn report(output: &impl Print, errors: &impl Print, bytes: &[u8], input: Input)
     requires { input ≡ Bytes (length bytes.now) }
 {
-    if !list(bytes, input) {
-        complain(b"lister: standard output cannot be written\n");
+    if !list(output, bytes, input) {
+        complain(errors, b"lister: standard output cannot be written\n");
     }
 }
 
-fn main() {
+fn main(rt: HostRuntime) {
+    let output = rt.stdout();
+    let errors = rt.stderr();
     let mut buffer = [0u8; MOST];
-    let input = read_part(&mut buffer);
+    let input = read_part(&mut rt.stdin(), &mut buffer);
     match input {
-        Input::Bytes(n) => report(&buffer[..n], input),
+        Input::Bytes(n) => report(&output, &errors, &buffer[..n], input),
         Input::Failed => {
-            complain(b"lister: standard input cannot be read\n");
+            complain(&errors, b"lister: standard input cannot be read\n");
         }
     }
 }

@@ -1,4 +1,6 @@
 // The text that the lister writes (01, The lister), made in a buffer that the caller lends.
+#![tactic(auto)]
+
 ghost use Rattle.std.specs.Prelude.{◌≤◌, length};
 ghost use Rattle.text.specs.Text.{Put};
 ghost use Rattle.listing.specs.Listing.{listing, longest_listing};

@@ -1,5 +1,7 @@
 // The row that a word fits, found among those of its opcode by the secondary opcode, as the numbers by which the word is judged. A `match`
 // compiles to constant data; a constant array that is indexed at run time is stored anew at every call.
+#![tactic(auto)]
+
 ghost use Rattle.std.specs.Prelude.{◌≡◌};
 ghost use Rattle.std.proofs.Math.Option.{map};
 ghost use Rattle.opcoderows.specs.Opcodes.{row_for};
@@ -10,7 +12,7 @@ use bits::fields::bits_at;
 use opcoderows::slot_of;
 use rows::table;
 
-#[derive(Drop)]
+#[derive(Clone, Copy)]
 pub struct Line {
     // the bits that the row fixes, opcodes and unassigned ones, and what they are
     pub fixed_bits: u64,
@@ -24,14 +26,14 @@ pub struct Line {
 }
 
 // What a word leads to: the line of a row of its opcode, or none.
-#[derive(Drop)]
+#[derive(Clone, Copy)]
 pub enum Found {
     Line(Line),
     None,
 }
 
 // The rows of an opcode: where the secondary opcode stands, which ones they have, as a set, and the cell of secondary opcode 0.
-#[derive(Drop)]
+#[derive(Clone, Copy)]
 pub struct Group {
     pub low: u64,
     pub mask: u64,

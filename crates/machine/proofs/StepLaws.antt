@@ -14,12 +14,12 @@ use Rattle.operations.specs.declared.Operation.{Operation}
 use Rattle.operations.specs.Served.Operations.{operand_worth, operation_of}
 use Rattle.operations.proofs.OperandLaws.{worth_same}
 use Rattle.machine.specs.declared.Effect.{Effect}
-use Rattle.machine.specs.Steps.{result, registers_after, index_after}
+use Rattle.machine.specs.Steps.{row_result, registers_after, index_after}
 use Rattle.machine.specs.Served.InPlace.{effect, effect_on, stored}
 
 -- what a row writes, by its number
-pub told : (k row : ℕ) (m : Modifiers) (a b c : ℕ) → row ≡ k → result k m a b c ≡ result row m a b c
-told k row m a b c e = sym (ap (λ (r : ℕ). result r m a b c) e)
+pub told : (k row : ℕ) (m : Modifiers) (a b c : ℕ) → row ≡ k → row_result k m a b c ≡ row_result row m a b c
+told k row m a b c e = sym (ap (λ (r : ℕ). row_result r m a b c) e)
 
 -- what an operation does, found from its operands
 pub found : (o : Operation) (i : ℕ) (registers : List ℕ) {a b c : ℕ} {e : Effect} → a ≡ operand_worth registers o.a → b ≡ operand_worth registers o.b → c ≡ operand_worth registers o.c

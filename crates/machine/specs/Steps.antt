@@ -16,8 +16,8 @@ is_set b = eqb b 1
 
 -- what a row writes, from what its sources are worth; 0 for a row that writes nothing. FADD.f32 has negate and absolute of source 0 at bits 38
 -- and 39, of source 1 at 36 and 37, and its clamp at 32, where MUX.i32 has its mode.
-unfoldable pub result : ℕ → Modifiers → ℕ → ℕ → ℕ → ℕ
-result row m a b c =
+unfoldable pub row_result : ℕ → Modifiers → ℕ → ℕ → ℕ → ℕ
+row_result row m a b c =
     choose (eqb row mov_row) a
     (choose (eqb row clz_row) (clz a)
     (choose (eqb row popcount_row) (popcount a)
@@ -38,7 +38,7 @@ pub record State : Type 0 where
 -- what an instruction writes, from the registers before it
 abbrev pub written : List ℕ → Instruction → List ℕ → ℕ
 written uniforms x registers =
-    result x.row x.modifiers (worth registers uniforms (source_0 x)) (worth registers uniforms (source_1 x)) (worth registers uniforms (source_2 x))
+    row_result x.row x.modifiers (worth registers uniforms (source_0 x)) (worth registers uniforms (source_1 x)) (worth registers uniforms (source_2 x))
 
 -- the registers after it: what it writes is in its destination, if its row has one
 unfoldable pub registers_after : List ℕ → Instruction → List ℕ → List ℕ

@@ -1,6 +1,8 @@
 // One step of a replay: the registers are lent, and changed in place.
+#![tactic(auto)]
+
 ghost use Rattle.std.specs.Prelude.{◌≡◌, ◌<◌};
-ghost use Rattle.machine.specs.Steps.{result, takes_branch};
+ghost use Rattle.machine.specs.Steps.{row_result, takes_branch};
 ghost use Rattle.machine.specs.Served.InPlace.{effect, effect_on, stored};
 
 use operations::Operation;
@@ -8,7 +10,7 @@ use operations::operand::operand_worth;
 use record::instruction::Modifiers;
 
 // What an operation does: the number that it writes, and the index of the next instruction.
-#[derive(Drop)]
+#[derive(Clone, Copy)]
 pub struct Effect {
     pub number: u32,
     pub next: usize,
@@ -18,7 +20,7 @@ const BRANCHZ: u8 = 1;
 
 // What a row writes, from what its sources are worth.
 fn result(row: u8, m: Modifiers, a: u32, b: u32, c: u32) -> u32
-    ensures* { λ r. ⌜ r ≡ result row m a b c ⌝ }
+    ensures { result ≡ row_result row m a b c }
 {
     match row {
         30 => a,
@@ -34,7 +36,7 @@ fn result(row: u8, m: Modifiers, a: u32, b: u32, c: u32) -> u32
 
 // Whether a row jumps.
 fn takes_branch(row: u8, m: Modifiers, a: u32) -> bool
-    ensures* { λ r. ⌜ r ≡ takes_branch row m a ⌝ }
+    ensures { result ≡ takes_branch row m a }
 {
     if row == BRANCHZ {
         return ops::jumps(m.m36 == 1, a);
@@ -45,7 +47,7 @@ fn takes_branch(row: u8, m: Modifiers, a: u32) -> bool
 // The step by value, from what the operands are worth.
 fn stepped(o: Operation, i: usize, a: u32, b: u32, c: u32) -> Effect
     requires { i < 65536 }
-    ensures* { λ r. ⌜ r ≡ effect o i a b c ⌝ }
+    ensures { result ≡ effect o i a b c }
 {
     let m = o.modifiers;
     let number = result(o.row, m, a, b, c);
@@ -64,8 +66,8 @@ fn stepped(o: Operation, i: usize, a: u32, b: u32, c: u32) -> Effect
 // The step in place: the register that the operation writes, if it writes one, is changed, and the index of the next instruction is given.
 pub fn step(registers: &mut [u32; 64], o: Operation, i: usize) -> usize
     requires { i < 65536 }
-    ensures* index { λ r. ⌜ r ≡ (effect_on o i registers.old).next ⌝ }
-    ensures* written { λ r. ⌜ registers.new ≡ stored o i registers.old ⌝ }
+    ensures index { result ≡ (effect_on o i registers.old).next }
+    ensures written { registers.new ≡ stored o i registers.old }
 {
     let a = operand_worth(registers, o.a);
     let b = operand_worth(registers, o.b);

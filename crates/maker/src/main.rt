@@ -1,5 +1,7 @@
 // Reads a version, an entry set and words from standard input, and writes the container of them and of the annotations that are proposed to
 // standard output. A program here has no exit status, so standard error tells how many sweeps that took, or the refusal, or what failed.
+#![tactic(auto)]
+
 ghost use Rattle.std.specs.Prelude.{◌≡◌, true, length};
 ghost use Rattle.bits.specs.Outcomes.{gives, refuses};
 ghost use Rattle.container.specs.Formats.{known, container_length};
@@ -17,6 +19,7 @@ use infer::infer;
 use input::Input;
 use packing::pack;
 use safety::verdict::{Finding, Verdict, plain};
+use std::io::Read;
 use sweeps::answer::Inference;
 use verdictline::{LONGEST_VERDICT, write_verdict};
 
@@ -32,56 +35,58 @@ const MOST: usize = FRONT_LENGTH + WORD_LENGTH * MOST_INSTRUCTIONS + 1;
 const WRONG_LENGTH: u8 = 12;
 
 // Reads that part, or all where there is less.
-fn read_part(buffer: &mut [u8]) -> Input
+fn read_part(reader: &mut impl Read, buffer: &mut [u8]) -> Input
     requires { length buffer.old ≡ read_length }
     ensures { Within result read_length }
 {
-    input::fill(buffer)
+    input::fill(reader, buffer)
 }
 
-fn tell(text: &[u8]) -> bool {
-    io::write_all(libc::STDERR_FILENO, text)
+fn tell(errors: &impl Print, text: &[u8]) -> bool {
+    errors.write_all(text).is_ok()
 }
 
 // Tells a number between two texts.
-fn tell_number(before: &[u8], n: u64, after: &[u8]) {
-    tell(before);
-    io::print_decimal(libc::STDERR_FILENO, n);
-    tell(after);
+fn tell_number(errors: &impl Print, before: &[u8], n: u64, after: &[u8]) {
+    tell(errors, before);
+    errors.print(n).is_ok();
+    tell(errors, after);
 }
 
 // The one way to standard output: the text is the container that is made of what was read. It is written until all of it is, or until a
 // write fails.
-fn send(bytes: &[u8], input: Input, k: usize, text: &[u8]) -> bool
+fn send(output: &impl Print, bytes: &[u8], input: Input, k: usize, text: &[u8]) -> bool
     requires { Read input bytes.now × (answer_to bytes.now ≡ gives k) × (text.now ≡ made bytes.now) }
 {
-    io::write_all(libc::STDOUT_FILENO, text)
+    output.write_all(text).is_ok()
 }
 
-fn tell_sweeps(bytes: &[u8], input: Input, k: usize)
+fn tell_sweeps(errors: &impl Print, bytes: &[u8], input: Input, k: usize)
     requires { Read input bytes.now × (answer_to bytes.now ≡ gives k) }
 {
-    tell_number(b"maker: ", k as u64, b" sweeps\n");
+    tell_number(errors, b"maker: ", k as u64, b" sweeps\n");
 }
 
-fn tell_verdict(bytes: &[u8], input: Input, f: Finding, line: &[u8])
+fn tell_verdict(errors: &impl Print, bytes: &[u8], input: Input, f: Finding, line: &[u8])
     requires { Read input bytes.now × (answer_to bytes.now ≡ refuses f) × (line.now ≡ verdict_line (refuses f)) }
 {
-    tell(line);
+    tell(errors, line);
 }
 
 // Tells why nothing is proposed.
-fn refuse(bytes: &[u8], input: Input, f: Finding)
+fn refuse(errors: &impl Print, bytes: &[u8], input: Input, f: Finding)
     requires { Read input bytes.now × (answer_to bytes.now ≡ refuses f) }
 {
     let v = Verdict::Refused(f);
     let mut line = [0u8; LONGEST_VERDICT];
     let n = write_verdict(v, &mut line);
-    tell_verdict(bytes, input, f, &line[..n]);
+    tell_verdict(errors, bytes, input, f, &line[..n]);
 }
 
 // Packs what was proposed after k sweeps, and sends it.
 fn deliver<'a>(
+    output: &impl Print,
+    errors: &impl Print,
     bytes: &'a [u8],
     input: Input,
     version: u64,
@@ -94,15 +99,17 @@ fn deliver<'a>(
     requires { Read input bytes.now × Parted bytes.now version entry words.now × (answer_to bytes.now ≡ gives k) × (notes.now ≡ notes_for bytes.now) × (known version ≡ true) × Fitting version (length words.now) (length notes.now) × (length out.old ≡ container_length version (word_count (length words.now))) }
 {
     pack(version, entry, words, notes, out);
-    if send(bytes, input, k, out) {
-        tell_sweeps(bytes, input, k);
+    if send(output, bytes, input, k, out) {
+        tell_sweeps(errors, bytes, input, k);
     } else {
-        tell(b"maker: standard output cannot be written\n");
+        tell(errors, b"maker: standard output cannot be written\n");
     }
 }
 
 // Makes a container in lent buffers for its annotations and for all of it.
 fn make_in<'a>(
+    output: &impl Print,
+    errors: &impl Print,
     bytes: &'a [u8],
     input: Input,
     version: u64,
@@ -115,13 +122,25 @@ fn make_in<'a>(
 {
     let answer = infer(version, words, entry, notes);
     match answer {
-        Inference::Proposed(k) => { deliver(bytes, input, version, entry, words, notes, k, out) }
-        Inference::Refused(f) => refuse(bytes, input, f),
+        Inference::Proposed(k) => {
+            deliver(
+                output, errors, bytes, input, version, entry, words, notes, k, out,
+            )
+        }
+        Inference::Refused(f) => refuse(errors, bytes, input, f),
     }
 }
 
 // The same in memory of its own.
-fn make<'a>(bytes: &'a [u8], input: Input, version: u64, entry: Halves, words: &'a [u8])
+fn make<'a>(
+    output: &impl Print,
+    errors: &impl Print,
+    bytes: &'a [u8],
+    input: Input,
+    version: u64,
+    entry: Halves,
+    words: &'a [u8],
+)
     requires { Read input bytes.now × Parted bytes.now version entry words.now }
 {
     let mut notes = [0u8; LONGEST_ANNOTATION * MOST_INSTRUCTIONS];
@@ -131,6 +150,8 @@ fn make<'a>(bytes: &'a [u8], input: Input, version: u64, entry: Halves, words: &
     let end = f.annotation * n;
     let whole = container_length(version, n);
     make_in(
+        output,
+        errors,
         bytes,
         input,
         version,
@@ -143,25 +164,35 @@ fn make<'a>(bytes: &'a [u8], input: Input, version: u64, entry: Halves, words: &
 
 // Makes a container of what was read. An input that is too short for what stands before the words is refused like words of a wrong length:
 // 12, index 0 and no register.
-fn report(bytes: &[u8], input: Input)
+fn report(output: &impl Print, errors: &impl Print, bytes: &[u8], input: Input)
     requires { Read input bytes.now }
 {
     if bytes.len() < FRONT_LENGTH {
-        refuse(bytes, input, plain(WRONG_LENGTH, 0, 0));
+        refuse(errors, bytes, input, plain(WRONG_LENGTH, 0, 0));
         return;
     }
     let version = load64(&bytes[..ENTRY]);
     let entry = halves_in(bytes, ENTRY, 8);
-    make(bytes, input, version, entry, &bytes[FRONT_LENGTH..]);
+    make(
+        output,
+        errors,
+        bytes,
+        input,
+        version,
+        entry,
+        &bytes[FRONT_LENGTH..],
+    );
 }
 
-fn main() {
+fn main(rt: HostRuntime) {
+    let output = rt.stdout();
+    let errors = rt.stderr();
     let mut buffer = [0u8; MOST];
-    let input = read_part(&mut buffer);
+    let input = read_part(&mut rt.stdin(), &mut buffer);
     match input {
-        Input::Bytes(n) => report(&buffer[..n], input),
+        Input::Bytes(n) => report(&output, &errors, &buffer[..n], input),
         Input::Failed => {
-            tell(b"maker: standard input cannot be read\n");
+            tell(&errors, b"maker: standard input cannot be read\n");
         }
     }
 }

@@ -1,4 +1,6 @@
 // Reads the words of its standard input, eight bytes each, and writes a line for each: the word, and its name or the refusal.
+#![tactic(auto)]
+
 ghost use Rattle.std.specs.Prelude.{◌≡◌, ◌+◌, ◌≤◌, length};
 
 use bits::bytes::load64;
@@ -6,57 +8,58 @@ use codec::read_word;
 use reader::answer::Reading;
 use record::answer::Refusal;
 
-fn text(s: &[u8]) {
-    io::write_all(libc::STDOUT_FILENO, s);
+fn text(output: &impl Print, s: &[u8]) {
+    output.write_all(s).is_ok();
 }
 
-fn say_refusal(f: Refusal) {
-    text(b"refused ");
-    io::print_decimal(libc::STDOUT_FILENO, f.number as u64);
-    text(b" ");
-    io::print_decimal(libc::STDOUT_FILENO, f.place as u64);
+fn say_refusal(output: &impl Print, f: Refusal) {
+    text(output, b"refused ");
+    output.print(f.number as u64).is_ok();
+    text(output, b" ");
+    output.print(f.place as u64).is_ok();
 }
 
-fn say_start(bytes: &[u8], len: usize) {
+fn say_start(output: &impl Print, bytes: &[u8], len: usize) {
     if len <= bytes.len() {
-        text(&bytes[..len]);
+        text(output, &bytes[..len]);
     }
 }
 
-fn say_name(row: usize) {
+fn say_name(output: &impl Print, row: usize) {
     let n = rows::names::of_row(row);
     let bytes = n.bytes;
     let len = n.len as usize;
-    say_start(&bytes, len);
+    say_start(output, &bytes, len);
 }
 
-fn say_word(bytes: &[u8])
+fn say_word(output: &impl Print, bytes: &[u8])
     requires { length bytes.now ≡ 8 }
 {
-    io::print_hex(libc::STDOUT_FILENO, load64(bytes), 16);
-    text(b" ");
+    print!(output; "{:016x}", load64(bytes)).is_ok();
+    text(output, b" ");
     let r = read_word(bytes);
     match r {
-        Reading::Read(x) => say_name(x.row as usize),
-        Reading::Refused(f) => say_refusal(f),
+        Reading::Read(x) => say_name(output, x.row as usize),
+        Reading::Refused(f) => say_refusal(output, f),
     }
-    text(b"\n");
+    text(output, b"\n");
 }
 
 // The words that stand there whole.
-fn say_words(s: &[u8]) {
+fn say_words(output: &impl Print, s: &[u8]) {
     let mut at = 0;
     while 8 <= s.len() - at {
         let end = at + 8;
-        say_word(&s[at..end]);
+        say_word(output, &s[at..end]);
         at = end;
     }
 }
 
-fn main() {
+fn main(rt: HostRuntime) {
+    let output = rt.stdout();
     let mut buffer = [0u8; 4096];
-    let n = io::read_full(libc::STDIN_FILENO, &mut buffer);
+    let n = input::read_full(&mut rt.stdin(), &mut buffer);
     if n <= 4096 {
-        say_words(&buffer[..n]);
+        say_words(&output, &buffer[..n]);
     }
 }

@@ -1,4 +1,6 @@
 // The index by opcode, and the rows of an opcode, one by one.
+#![tactic(auto)]
+
 ghost use Rattle.std.specs.Prelude.{◌≡◌};
 ghost use Rattle.opcoderows.specs.Opcodes.{row_with, row_found};
 ghost use Rattle.opcoderows.specs.Served.Slots.{block, block_at, slot_of};
@@ -8,21 +10,21 @@ use bits::fields::bits_at;
 
 // Sixteen opcodes: four bits for each one, from the lowest up, lead from the first slot to its own; 0 where no row has the opcode, since the
 // first slot is empty.
-#[derive(Drop)]
+#[derive(Clone, Copy)]
 pub struct Block {
     pub steps: u64,
     pub first: u64,
 }
 
 // Where the rows of an opcode stand in the order of rows by opcode, and how many there are.
-#[derive(Drop)]
+#[derive(Clone, Copy)]
 pub struct Run {
     pub first: u64,
     pub count: u64,
 }
 
 // What asking for a row of an opcode gives.
-#[derive(Drop)]
+#[derive(Clone, Copy)]
 pub enum RowFound {
     Row(u8),
     None,

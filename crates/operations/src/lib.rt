@@ -1,4 +1,6 @@
 // Instructions made ready for a replay: with which number one is refused, and what of it stays the same for a whole run.
+#![tactic(auto)]
+
 pub mod fault;
 pub mod operand;
 
@@ -16,7 +18,7 @@ const NO_REGISTER: u8 = 64;
 
 // An instruction as a run keeps it: the number with which it is refused, or 0; the register that it writes, or 64; its operands, and where
 // it jumps to.
-#[derive(Drop)]
+#[derive(Clone, Copy)]
 pub struct Operation {
     pub fault: u8,
     pub row: u8,

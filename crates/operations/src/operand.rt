@@ -6,7 +6,7 @@ ghost use Rattle.operations.specs.Served.Operations.{in_register, fixed, operand
 use sources::{Source, meaning};
 
 // A register, or 64 and a number.
-#[derive(Drop)]
+#[derive(Clone, Copy)]
 pub struct Operand {
     pub register: u8,
     pub number: u32,

@@ -1,4 +1,6 @@
 // The rows on whole numbers.
+#![tactic(auto)]
+
 ghost use Rattle.std.specs.Prelude.{◌≡◌, ◌*◌, ◌/◌, ◌%◌, ◌^◌, ◌<◌};
 ghost use Rattle.std.specs.Int.Bits.{bit_and, bit_or};
 ghost use Rattle.ops.specs.Rows.{complement, clz, popcount, bitrev, passes, mux, jumps};

@@ -1,4 +1,6 @@
 // Packing (the paper's parcel, written): a version, an entry set, words and annotations put together into a lent buffer.
+#![tactic(auto)]
+
 ghost use Rattle.std.specs.Prelude.{◌≡◌, ◌+◌, length};
 ghost use Rattle.container.specs.Formats.{header_length};
 ghost use Rattle.packing.specs.Packing.{fitting, front_bytes, halves_bytes, container_bytes, packing_outcome, pack_outcome, pack_buffer};
@@ -10,6 +12,9 @@ use container::layout::WORD_LENGTH;
 
 // Where the entry set begins.
 const ENTRY: usize = 8;
+
+// The fewest instructions of a container.
+const FEWEST: usize = 1;
 
 // The numbers of the refusals, by reason.
 const WRONG_VERSION: u8 = 11;
@@ -31,7 +36,7 @@ pub fn fit(version: u64, words: usize, annotations: usize) -> bool
 {
     let f = format_of(version);
     let n = words / WORD_LENGTH;
-    if n < 1 {
+    if n < FEWEST {
         return false;
     }
     if f.most < n {
@@ -74,11 +79,11 @@ fn fill(version: u64, entry: Halves, words: &[u8], annotations: &[u8], out: &mut
     let f = format_of(version);
     let start = f.header;
     let first = front(version, words.len() / WORD_LENGTH);
-    bytes::copy(&first, out);
+    bits::bytes::copy(&first, out);
     fill_entry(version, entry, &mut out[ENTRY..start]);
-    bytes::copy(words, &mut out[start..]);
+    bits::bytes::copy(words, &mut out[start..]);
     let end = start + words.len();
-    bytes::copy(annotations, &mut out[end..]);
+    bits::bytes::copy(annotations, &mut out[end..]);
 }
 
 // Writes a container into a buffer of its length, or leaves the buffer as it is on a refusal.

@@ -2,7 +2,7 @@ use record::answer::Refusal;
 use record::instruction::Instruction;
 
 // What reading a word gives.
-#[derive(Drop)]
+#[derive(Clone, Copy)]
 pub enum Reading {
     Read(Instruction),
     Refused(Refusal),

@@ -1,4 +1,6 @@
 // Reading words.
+#![tactic(auto)]
+
 ghost use Rattle.std.specs.Prelude.{◌≡◌, ℕ};
 ghost use Rattle.record.specs.Instructions.{instruction_of};
 ghost use Rattle.reading.specs.Reader.{read_number, read};

@@ -1,4 +1,6 @@
 // Decoded instructions: what they hold, what is legal, the default of each row, what they do to registers.
+#![tactic(auto)]
+
 pub mod answer;
 pub mod fresh;
 pub mod instruction;

@@ -19,7 +19,7 @@ const END: u8 = 15;
 const FULL: u8 = 3;
 
 // The registers that an instruction reads, and those of them that it releases.
-#[derive(Drop)]
+#[derive(Clone, Copy)]
 pub struct Uses {
     pub reads: u64,
     pub kills: u64,

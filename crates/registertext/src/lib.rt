@@ -1,4 +1,6 @@
 // A set of halves of registers as text.
+#![tactic(auto)]
+
 ghost use Rattle.std.specs.Prelude.{◌≡◌, ◌++◌, ◌+◌, ◌<◌, ◌≤◌, length};
 ghost use Rattle.bits.specs.Sets.{lowest as lowest_of};
 ghost use Rattle.bits.specs.Halves.{either as either-of};

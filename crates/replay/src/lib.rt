@@ -1,4 +1,6 @@
 // Replay: a container that is accepted is run on 64 registers and compared with a recorded trace.
+#![tactic(auto)]
+
 ghost use Rattle.std.specs.Prelude.{◌≡◌};
 ghost use Rattle.container.specs.Container.{count_of};
 ghost use Rattle.safety.specs.Verdict.{verdict_outcome};
@@ -16,7 +18,7 @@ use trace::REGISTERS;
 use verifier::verify;
 
 // What a replay answers: what stopped the run, or why there was none.
-#[derive(Drop)]
+#[derive(Clone, Copy)]
 pub enum Replayed {
     Ran(Stop),
     Refused(Finding),

@@ -1,4 +1,6 @@
 // The answer of a replay as one number.
+#![tactic(auto)]
+
 ghost use Rattle.std.specs.Prelude.{◌≡◌};
 ghost use Rattle.replaycode.specs.ReplayCode.{stop_code};
 

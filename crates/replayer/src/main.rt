@@ -1,6 +1,8 @@
 // Reads what a replay is asked from standard input, and writes the line of its answer to standard output; where each step is wanted too,
 // before that a line for each step run with the registers after it. A program here has no exit status, so what fails is told on standard
 // error.
+#![tactic(auto)]
+
 ghost use Rattle.std.specs.Prelude.{◌≡◌, ◌+◌, ◌<◌, ◌≤◌, length};
 ghost use Rattle.bits.specs.Fields.{choose};
 ghost use Rattle.bits.specs.Outcomes.{refuses};
@@ -19,6 +21,7 @@ use runbytes::{
     Fault, Front, MOST_RECORDED, MOST_UNIFORMS, Parted, UNIFORMS_START, container, load_lists,
     load_registers, split,
 };
+use std::io::Read;
 use trace::REGISTERS;
 
 // The longest that can stand before a container, and one byte more than the longest container: what is longer is refused by this part alone.
@@ -28,33 +31,41 @@ const MOST: usize = UNIFORMS_START
     + (LONGEST_CONTAINER + 1);
 
 // Reads that part, or all where there is less.
-fn read_part(buffer: &mut [u8; MOST]) -> Input
+fn read_part(reader: &mut impl Read, buffer: &mut [u8; MOST]) -> Input
     ensures { Within result most_read × (length buffer.new ≡ most_read) }
 {
-    input::fill(buffer)
+    input::fill(reader, buffer)
 }
 
-fn tell(text: &[u8]) -> bool {
-    io::write_all(libc::STDERR_FILENO, text)
+fn tell(errors: &impl Print, text: &[u8]) -> bool {
+    errors.write_all(text).is_ok()
 }
 
 // The one way to standard output for the registers: the line of those after step j, counted from 1. It is written until all of it is, or
 // until a write fails.
-fn send_row(bytes: &[u8], input: Input, f: Front, j: u32, text: &[u8]) -> bool
+fn send_row(output: &impl Print, bytes: &[u8], input: Input, f: Front, j: u32, text: &[u8]) -> bool
     requires { Read input bytes.now f × (0 < j) × (j ≤ row_count bytes.now) × (text.now ≡ row_text bytes.now j) }
 {
-    io::write_all(libc::STDOUT_FILENO, text)
+    output.write_all(text).is_ok()
 }
 
 // The one way to standard output for the answer, after k lines of registers, which are all that are wanted.
-fn send_answer(bytes: &[u8], input: Input, f: Front, k: u32, text: &[u8]) -> bool
+fn send_answer(
+    output: &impl Print,
+    bytes: &[u8],
+    input: Input,
+    f: Front,
+    k: u32,
+    text: &[u8],
+) -> bool
     requires { Read input bytes.now f × (k ≡ row_count bytes.now) × (text.now ≡ answer_text bytes.now) }
 {
-    io::write_all(libc::STDOUT_FILENO, text)
+    output.write_all(text).is_ok()
 }
 
 // Sends the registers after j steps: they are replayed from the start with that limit, and compared with nothing.
 fn write_row<'a>(
+    output: &impl Print,
     bytes: &'a [u8],
     input: Input,
     f: Front,
@@ -70,11 +81,12 @@ fn write_row<'a>(
     replay(container, &mut registers, uniforms, &trace[..0], j);
     let mut line = [0u8; ROW_LENGTH];
     let n = put_registers(&registers, &mut line);
-    send_row(bytes, input, f, j, &line[..n])
+    send_row(output, bytes, input, f, j, &line[..n])
 }
 
 // Sends the registers after each of n steps, until a write fails, and answers how many lines it sent.
 fn write_rows<'a>(
+    output: &impl Print,
     bytes: &'a [u8],
     input: Input,
     f: Front,
@@ -88,7 +100,7 @@ fn write_rows<'a>(
 {
     let mut j = 0;
     while j < n {
-        if !write_row(bytes, input, f, container, uniforms, trace, j + 1) {
+        if !write_row(output, bytes, input, f, container, uniforms, trace, j + 1) {
             return j;
         }
         j += 1;
@@ -98,6 +110,7 @@ fn write_rows<'a>(
 
 // Sends the line of an answer, after k lines of registers.
 fn write_answer<'a>(
+    output: &impl Print,
     bytes: &'a [u8],
     input: Input,
     f: Front,
@@ -110,7 +123,7 @@ fn write_answer<'a>(
 {
     let mut line = [0u8; LONGEST_ANSWER];
     let n = put_answer(a, registers, trace, &mut line);
-    send_answer(bytes, input, f, k, &line[..n])
+    send_answer(output, bytes, input, f, k, &line[..n])
 }
 
 // How many steps were run, of which there is a limit.
@@ -141,6 +154,8 @@ fn rows_wanted(f: Front, a: Replayed, limit: u32) -> u32
 
 // Replays what is asked, and sends what is wanted.
 fn answer<'a>(
+    output: &impl Print,
+    errors: &impl Print,
     bytes: &'a [u8],
     input: Input,
     f: Front,
@@ -155,71 +170,116 @@ fn answer<'a>(
     load_registers(bytes, &mut registers);
     let a = replay(container, &mut registers, uniforms, trace, limit);
     let n = rows_wanted(f, a, limit);
-    let k = write_rows(bytes, input, f, container, uniforms, trace, n);
+    let k = write_rows(output, bytes, input, f, container, uniforms, trace, n);
     if k < n {
-        tell(b"replayer: standard output cannot be written\n");
+        tell(errors, b"replayer: standard output cannot be written\n");
         return;
     }
-    if !write_answer(bytes, input, f, k, a, &registers, trace) {
-        tell(b"replayer: standard output cannot be written\n");
+    if !write_answer(output, bytes, input, f, k, a, &registers, trace) {
+        tell(errors, b"replayer: standard output cannot be written\n");
     }
 }
 
 // The same in lent lists for the uniforms and the trace.
-fn answer_in<'a>(bytes: &'a [u8], input: Input, f: Front, uniforms: &mut [u32], trace: &mut [u32])
+fn answer_in<'a>(
+    output: &impl Print,
+    errors: &impl Print,
+    bytes: &'a [u8],
+    input: Input,
+    f: Front,
+    uniforms: &mut [u32],
+    trace: &mut [u32],
+)
     requires { Read input bytes.now f × (length uniforms.old ≡ f.uniforms) × (length trace.old ≡ f.recorded) }
 {
     load_lists(bytes, f, uniforms, trace);
-    answer(bytes, input, f, container(bytes, f), uniforms, trace);
+    answer(
+        output,
+        errors,
+        bytes,
+        input,
+        f,
+        container(bytes, f),
+        uniforms,
+        trace,
+    );
 }
 
 // The same in memory of its own.
-fn answer_whole(bytes: &[u8], input: Input, f: Front)
+fn answer_whole(output: &impl Print, errors: &impl Print, bytes: &[u8], input: Input, f: Front)
     requires { Read input bytes.now f }
 {
     let mut uniforms = [0u32; MOST_UNIFORMS];
     let mut trace = [0u32; MOST_RECORDED];
     let u = f.uniforms;
     let t = f.recorded;
-    answer_in(bytes, input, f, &mut uniforms[..u], &mut trace[..t]);
+    answer_in(
+        output,
+        errors,
+        bytes,
+        input,
+        f,
+        &mut uniforms[..u],
+        &mut trace[..t],
+    );
 }
 
-fn tell_fault<'a>(bytes: &'a [u8], input: Input, e: Fault, line: &'a [u8])
+fn tell_fault<'a>(errors: &impl Print, bytes: &'a [u8], input: Input, e: Fault, line: &'a [u8])
     requires { (input ≡ Bytes (length bytes.now)) × (refuses e ≡ split_outcome bytes.now) × (line.now ≡ fault_line e) }
 {
-    tell(line);
+    tell(errors, line);
 }
 
 // Tells what is wrong with the input.
-fn refuse(bytes: &[u8], input: Input, e: Fault)
+fn refuse(errors: &impl Print, bytes: &[u8], input: Input, e: Fault)
     requires { (input ≡ Bytes (length bytes.now)) × (refuses e ≡ split_outcome bytes.now) }
 {
     match e {
-        Fault::Short => tell_fault(bytes, input, e, b"replayer: input shorter than 272 bytes\n"),
-        Fault::Kind => tell_fault(bytes, input, e, b"replayer: first number is not 0 or 1\n"),
-        Fault::Counts => tell_fault(bytes, input, e, b"replayer: a count is too large\n"),
-        Fault::Cut => tell_fault(bytes, input, e, b"replayer: input shorter than counted\n"),
+        Fault::Short => tell_fault(
+            errors,
+            bytes,
+            input,
+            e,
+            b"replayer: input shorter than 272 bytes\n",
+        ),
+        Fault::Kind => tell_fault(
+            errors,
+            bytes,
+            input,
+            e,
+            b"replayer: first number is not 0 or 1\n",
+        ),
+        Fault::Counts => tell_fault(errors, bytes, input, e, b"replayer: a count is too large\n"),
+        Fault::Cut => tell_fault(
+            errors,
+            bytes,
+            input,
+            e,
+            b"replayer: input shorter than counted\n",
+        ),
     }
 }
 
 // Answers what was read.
-fn report(bytes: &[u8], input: Input)
+fn report(output: &impl Print, errors: &impl Print, bytes: &[u8], input: Input)
     requires { input ≡ Bytes (length bytes.now) }
 {
     let parted = split(bytes);
     match parted {
-        Parted::Whole(f) => answer_whole(bytes, input, f),
-        Parted::Wrong(e) => refuse(bytes, input, e),
+        Parted::Whole(f) => answer_whole(output, errors, bytes, input, f),
+        Parted::Wrong(e) => refuse(errors, bytes, input, e),
     }
 }
 
-fn main() {
+fn main(rt: HostRuntime) {
+    let output = rt.stdout();
+    let errors = rt.stderr();
     let mut buffer = [0u8; MOST];
-    let input = read_part(&mut buffer);
+    let input = read_part(&mut rt.stdin(), &mut buffer);
     match input {
-        Input::Bytes(n) => report(&buffer[..n], input),
+        Input::Bytes(n) => report(&output, &errors, &buffer[..n], input),
         Input::Failed => {
-            tell(b"replayer: standard input cannot be read\n");
+            tell(&errors, b"replayer: standard input cannot be read\n");
         }
     }
 }

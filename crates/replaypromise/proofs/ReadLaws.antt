@@ -24,7 +24,7 @@ use Rattle.operations.specs.Replayable.{branchz_row, mov_row, clz_row, popcount_
 use Rattle.operations.specs.Values.{worth}
 use Rattle.operations.proofs.ByteLaws.{by_tests}
 use Rattle.safety.specs.Program.{landing}
-use Rattle.machine.specs.Steps.{is_set, result, takes_branch, index_after}
+use Rattle.machine.specs.Steps.{is_set, row_result, takes_branch, index_after}
 use Rattle.replaypromise.specs.Promises.{ReadsOnly}
 
 -- two contents of the registers in which a source's register, if it is one, is the same
@@ -102,8 +102,8 @@ module _ (row : ℕ) (m : Modifiers) {a b c a' b' c' : ℕ} (p : 0 < (row_of row
   third : (k : ℕ) → 2 < (row_of k).sources → row ≡ k → c ≡ c'
   third k l e = r (rw e l)
 
-  same_result : result row m a b c ≡ result row m a' b' c'
-  unfolding result rows
+  same_result : row_result row m a b c ≡ row_result row m a' b' c'
+  unfolding row_result rows
   same_result =
       arm mov_row row (λ e. first mov_row (omega arith) e)
       (arm clz_row row (λ e. ap clz (first clz_row (omega arith) e))

@@ -1,1 +1,3 @@
+#![tactic(auto)]
+
 // What a replay owes, whatever its code is. There is no code here.

@@ -2,6 +2,8 @@
 // it changed.
 // The input is a sequence of entries: a label of 48 bytes, a length of four bytes, the lowest first, and as many bytes, which say what a
 // replay is asked.
+#![tactic(auto)]
+
 ghost use Rattle.std.specs.Prelude.{◌≡◌, ◌<◌, ◌≤◌, length};
 ghost use Rattle.runbytes.specs.Served.Whole.{Whole};
 
@@ -19,81 +21,87 @@ const LABEL: usize = 48;
 
 const MOST: usize = 524288;
 
-fn say(s: &[u8]) {
-    io::write_all(libc::STDOUT_FILENO, s);
+fn say(output: &impl Print, s: &[u8]) {
+    output.write_all(s).is_ok();
 }
 
-fn number(n: u64) {
-    say(b" ");
-    io::print_decimal(libc::STDOUT_FILENO, n);
+fn number(output: &impl Print, n: u64) {
+    say(output, b" ");
+    output.print(n).is_ok();
 }
 
-fn say_half(half: Reported) {
+fn say_half(output: &impl Print, half: Reported) {
     match half {
         Reported::Neither => {}
-        Reported::Low => say(b"L"),
-        Reported::High => say(b"H"),
+        Reported::Low => say(output, b"L"),
+        Reported::High => say(output, b"H"),
     }
 }
 
 // Number, place, instruction, register with the half.
-fn say_finding(f: Finding) {
+fn say_finding(output: &impl Print, f: Finding) {
     let half = f.half;
-    say(b" REFUSED");
-    number(f.number as u64);
-    number(f.place as u64);
-    number(f.index as u64);
-    number(f.register as u64);
-    say_half(half);
+    say(output, b" REFUSED");
+    number(output, f.number as u64);
+    number(output, f.place as u64);
+    number(output, f.index as u64);
+    number(output, f.register as u64);
+    say_half(output, half);
 }
 
 // The step, counted from 0, and the register; or how many steps were run.
-fn say_stop(s: Stop) {
+fn say_stop(output: &impl Print, s: Stop) {
     match s {
         Stop::Differs(k, r) => {
-            say(b" DIFFERS");
-            number(k as u64);
-            number(r as u64);
+            say(output, b" DIFFERS");
+            number(output, k as u64);
+            number(output, r as u64);
         }
         Stop::Ended(n) => {
-            say(b" END");
-            number(n as u64);
+            say(output, b" END");
+            number(output, n as u64);
         }
         Stop::Limit(n) => {
-            say(b" LIMIT");
-            number(n as u64);
+            say(output, b" LIMIT");
+            number(output, n as u64);
         }
     }
 }
 
-fn say_answer(a: Replayed) {
+fn say_answer(output: &impl Print, a: Replayed) {
     match a {
-        Replayed::Ran(s) => say_stop(s),
-        Replayed::Refused(f) => say_finding(f),
+        Replayed::Ran(s) => say_stop(output, s),
+        Replayed::Refused(f) => say_finding(output, f),
     }
 }
 
-fn say_register(r: usize, v: u32) {
+fn say_register(output: &impl Print, r: usize, v: u32) {
     let mut digits = [0u8; 8];
     put_digits(v as u64, 16, 8, &mut digits);
-    say(b" r");
-    io::print_decimal(libc::STDOUT_FILENO, r as u64);
-    say(b"=");
-    say(&digits);
+    say(output, b" r");
+    output.print(r as u64).is_ok();
+    say(output, b"=");
+    say(output, &digits);
 }
 
 // The registers that are left with another value than they had.
-fn say_changed(start: &[u32; REGISTERS], left: &[u32; REGISTERS]) {
+fn say_changed(output: &impl Print, start: &[u32; REGISTERS], left: &[u32; REGISTERS]) {
     let mut r = 0;
     while r < REGISTERS {
         if start[r] != left[r] {
-            say_register(r, left[r]);
+            say_register(output, r, left[r]);
         }
         r += 1;
     }
 }
 
-fn say_replay<'a>(bytes: &'a [u8], f: Front, uniforms: &'a [u32], trace: &'a [u32])
+fn say_replay<'a>(
+    output: &impl Print,
+    bytes: &'a [u8],
+    f: Front,
+    uniforms: &'a [u32],
+    trace: &'a [u32],
+)
     requires { Whole bytes.now f }
 {
     let mut start = [0u32; REGISTERS];
@@ -101,41 +109,47 @@ fn say_replay<'a>(bytes: &'a [u8], f: Front, uniforms: &'a [u32], trace: &'a [u3
     load_registers(bytes, &mut start);
     load_registers(bytes, &mut left);
     let a = replay(container(bytes, f), &mut left, uniforms, trace, f.limit);
-    say_answer(a);
-    say_changed(&start, &left);
+    say_answer(output, a);
+    say_changed(output, &start, &left);
 }
 
 // The same in lent lists for the uniforms and the trace.
-fn say_in<'a>(bytes: &'a [u8], f: Front, uniforms: &mut [u32], trace: &mut [u32])
+fn say_in<'a>(
+    output: &impl Print,
+    bytes: &'a [u8],
+    f: Front,
+    uniforms: &mut [u32],
+    trace: &mut [u32],
+)
     requires { Whole bytes.now f × (length uniforms.old ≡ f.uniforms) × (length trace.old ≡ f.recorded) }
 {
     load_lists(bytes, f, uniforms, trace);
-    say_replay(bytes, f, uniforms, trace);
+    say_replay(output, bytes, f, uniforms, trace);
 }
 
 // The same in memory of its own.
-fn say_whole(bytes: &[u8], f: Front)
+fn say_whole(output: &impl Print, bytes: &[u8], f: Front)
     requires { Whole bytes.now f }
 {
     let mut uniforms = [0u32; MOST_UNIFORMS];
     let mut trace = [0u32; MOST_RECORDED];
     let u = f.uniforms;
     let t = f.recorded;
-    say_in(bytes, f, &mut uniforms[..u], &mut trace[..t]);
+    say_in(output, bytes, f, &mut uniforms[..u], &mut trace[..t]);
 }
 
 // What an entry's bytes ask, answered; WRONG where they ask nothing.
-fn say_asked(bytes: &[u8]) {
+fn say_asked(output: &impl Print, bytes: &[u8]) {
     let parted = split(bytes);
     match parted {
-        Parted::Whole(f) => say_whole(bytes, f),
-        Parted::Wrong(_) => say(b" WRONG"),
+        Parted::Whole(f) => say_whole(output, bytes, f),
+        Parted::Wrong(_) => say(output, b" WRONG"),
     }
-    say(b"\n");
+    say(output, b"\n");
 }
 
 // The entry at a place, and the place after it; the end where it is cut off.
-fn entry_at(s: &[u8], at: usize) -> usize
+fn entry_at(output: &impl Print, s: &[u8], at: usize) -> usize
     requires { at < length s.now }
     ensures { (at < result) × (result ≤ length s.now) }
 {
@@ -149,22 +163,23 @@ fn entry_at(s: &[u8], at: usize) -> usize
         return s.len();
     }
     let end = start + n;
-    say(&s[at..counted]);
-    say_asked(&s[start..end]);
+    say(output, &s[at..counted]);
+    say_asked(output, &s[start..end]);
     end
 }
 
-fn entries(s: &[u8]) {
+fn entries(output: &impl Print, s: &[u8]) {
     let mut at = 0;
     while at < s.len() {
-        at = entry_at(s, at);
+        at = entry_at(output, s, at);
     }
 }
 
-fn main() {
+fn main(rt: HostRuntime) {
+    let output = rt.stdout();
     let mut buffer = [0u8; MOST];
-    let n = io::read_full(libc::STDIN_FILENO, &mut buffer);
+    let n = input::read_full(&mut rt.stdin(), &mut buffer);
     if n <= MOST {
-        entries(&buffer[..n]);
+        entries(&output, &buffer[..n]);
     }
 }

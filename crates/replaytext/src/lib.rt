@@ -1,4 +1,6 @@
 // A replay's answer and the registers after a step as lines of text, made in a buffer that the caller lends.
+#![tactic(auto)]
+
 ghost use Rattle.std.specs.Prelude.{◌≡◌, ◌++◌, ◌+◌, ◌*◌, ◌≤◌, length, get_or};
 ghost use Rattle.bits.specs.Outcomes.{gives};
 ghost use Rattle.replay.specs.Replay.{replayed_outcome};

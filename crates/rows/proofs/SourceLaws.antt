@@ -10,7 +10,7 @@ use lib.ListN.{get_or}
 use borrow.Author.Tests.{lt-ltb, le-ltb, eq-eqb, ne_eqb, eqb-true, eqb-false}
 use Rattle.bits.specs.Fields.{choose}
 use Rattle.bits.specs.Sets.{has}
-use Rattle.rows.specs.Sources.{Special, reserved, warp_id, framebuffer_size, atest_datum, sample, blend_descriptor, thread_local_pointer, workgroup_local_pointer, resource_table_pointer, lane_id, core_id, program_counter, Part, low_word, high_word_lem, Meaning, register_read, register_released, uniform, immediate, special, refused, immediates, pages, special_at, is_reserved, is_refused, special_meaning, part_of, pair_meaning, constant_meaning, meaning, source_legal, Paired}
+use Rattle.rows.specs.Sources.{Special, reserved, warp_id, framebuffer_size, atest_datum, sample, blend_descriptor, thread_local_pointer, workgroup_local_pointer, resource_table_pointer, lane_id, core_id, program_counter, Part, low_word, high_word, Meaning, register_read, register_released, uniform, immediate, special, refused, immediates, pages, special_at, is_reserved, is_refused, special_meaning, part_of, pair_meaning, constant_meaning, meaning, source_legal, Paired}
 use Rattle.rows.specs.Served.Table.{set_of, page_word}
 use Rattle.rows.proofs.SetOfLaws.{has_set_of}
 
@@ -114,7 +114,7 @@ special_not p i q = go (is_reserved (special_at p i))
 pub part_low : (d : ℕ) → d % 2 ≡ 0 → low_word ≡ part_of d
 part_low d e = rw (eq-eqb (d % 2) 0 e)
 
-pub part_high : (d : ℕ) → (d % 2 ≡ 0 → ⊥) → high_word_lem ≡ part_of d
+pub part_high : (d : ℕ) → (d % 2 ≡ 0 → ⊥) → high_word ≡ part_of d
 part_high d n = rw (ne_eqb (d % 2) 0 n)
 
 -- ---- Item 2 of 02

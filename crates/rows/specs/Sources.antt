@@ -117,7 +117,7 @@ special_at page i = get_or (get_or pages page []) i reserved
 
 -- a special value is 64 bits wide, two words (02, Item 2)
 pub data Part : Type 0 where
-  low_word high_word_lem : Part
+  low_word high_word : Part
 
 -- what a source byte means
 pub data Meaning : Type 0 where
@@ -152,7 +152,7 @@ special_meaning s p = choose (is_reserved s) refused (special s p)
 
 -- the entries from 32 up, counted from there, are pairs: first a value's low word, then its high word
 abbrev pub part_of : ℕ → Part
-part_of d = choose (eqb (d % 2) 0) low_word high_word_lem
+part_of d = choose (eqb (d % 2) 0) low_word high_word
 
 abbrev pub pair_meaning : ℕ → ℕ → Meaning
 pair_meaning page d = special_meaning (special_at page (d / 2)) (part_of d)
@@ -186,7 +186,7 @@ source_legal page b = not (is_refused (meaning page b))
 -- that only words of reserved values are refused, among them all of page 2
 pub record Paired (means : ℕ → ℕ → Meaning) : Type 0 where
   pub low : (page i : ℕ) → page < 4 → i < 16 → means page (192 + (32 + 2 * i)) ≡ special_meaning (special_at page i) low_word
-  pub high : (page i : ℕ) → page < 4 → i < 16 → means page (192 + (33 + 2 * i)) ≡ special_meaning (special_at page i) high_word_lem
+  pub high : (page i : ℕ) → page < 4 → i < 16 → means page (192 + (33 + 2 * i)) ≡ special_meaning (special_at page i) high_word
   pub no_other : (page b : ℕ) (s : Special) (p : Part) → page < 4 → b < 256 → means page b ≡ special s p → 192 + 32 ≤ b
   pub refused_only : (page b : ℕ) → page < 4 → b < 256 → means page b ≡ refused
       → (i : ℕ) × (i < 16) × ((b ≡ 192 + (32 + 2 * i)) ⊎ (b ≡ 192 + (33 + 2 * i))) × (special_at page i ≡ reserved)

@@ -9,7 +9,7 @@ use crate::table;
 pub const WIDTH: usize = 18;
 
 // A name, with spaces after it, and its length.
-#[derive(Drop)]
+#[derive(Clone, Copy)]
 pub struct Name {
     pub bytes: [u8; WIDTH],
     pub len: u8,

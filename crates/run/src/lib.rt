@@ -1,4 +1,6 @@
 // The run of a program whose instructions are made ready.
+#![tactic(auto)]
+
 ghost use Rattle.std.specs.Prelude.{◌≡◌};
 ghost use Rattle.safety.specs.Program.{program_of};
 ghost use Rattle.run.specs.Run.{at, run, steps_run};
@@ -11,7 +13,7 @@ use trace::{REGISTERS, difference};
 
 // What stops a run: after a step, counted from 0, the lowest register that differs from the trace; an instruction's `end`, or the limit,
 // after so many steps.
-#[derive(Drop)]
+#[derive(Clone, Copy)]
 pub enum Stop {
     Differs(u32, u32),
     Ended(u32),

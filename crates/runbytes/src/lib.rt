@@ -1,4 +1,6 @@
 // What a replay is asked, in bytes: where its parts stand, and the numbers in them.
+#![tactic(auto)]
+
 ghost use Rattle.std.specs.Prelude.{◌≡◌, ◌+◌, ◌*◌, ◌≤◌, length};
 ghost use Rattle.runbytes.specs.RunBytes.{uniforms_start, number_at, numbers, registers_in, uniforms_in, trace_in, container_in, split_outcome, parted_outcome};
 ghost use Rattle.runbytes.specs.Served.Whole.{Whole};
@@ -27,7 +29,7 @@ const RECORDED: usize = 12;
 
 // What stands before the start registers: whether the registers after each step are wanted, the limit, how many uniforms there are, and
 // how many numbers the trace has.
-#[derive(Drop)]
+#[derive(Clone, Copy)]
 pub struct Front {
     pub rows: bool,
     pub limit: u32,
@@ -37,7 +39,7 @@ pub struct Front {
 
 // What can be wrong: no room for the start registers, another first number than 0 and 1, a count that is too large, no room for what is
 // counted.
-#[derive(Drop)]
+#[derive(Clone, Copy)]
 pub enum Fault {
     Short,
     Kind,
@@ -45,7 +47,7 @@ pub enum Fault {
     Cut,
 }
 
-#[derive(Drop)]
+#[derive(Clone, Copy)]
 pub enum Parted {
     Whole(Front),
     Wrong(Fault),

@@ -10,7 +10,7 @@ use bits::halves::{Halves, either, missing_halves};
 use bits::sets::lowest;
 
 // Which half of a register is told.
-#[derive(Drop)]
+#[derive(Clone, Copy)]
 pub enum Reported {
     Neither,
     Low,
@@ -18,7 +18,7 @@ pub enum Reported {
 }
 
 // Why a container is refused: the number, its place, the instruction, the lowest register at fault and which half of it.
-#[derive(Drop)]
+#[derive(Clone, Copy)]
 pub struct Finding {
     pub number: u8,
     pub place: u8,
@@ -28,7 +28,7 @@ pub struct Finding {
 }
 
 // What the verifier says of a container.
-#[derive(Drop)]
+#[derive(Clone, Copy)]
 pub enum Verdict {
     Accepted,
     Refused(Finding),

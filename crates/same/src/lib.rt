@@ -1,4 +1,6 @@
 // Whether two records are equal.
+#![tactic(auto)]
+
 ghost use Rattle.std.specs.Prelude.{◌≡◌};
 ghost use Rattle.record.specs.Lists.{source_list, modifier_list};
 ghost use Rattle.reader.specs.Answers.{reading};

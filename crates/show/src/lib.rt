@@ -1,5 +1,7 @@
 // What `show` writes for a parcel: the parcel in a few lines, the program line by line, and the verdict in words, made in a buffer that the
 // caller lends.
+#![tactic(auto)]
+
 ghost use Rattle.std.specs.Prelude.{◌≡◌, ◌≤◌, eqb, length};
 ghost use Rattle.bits.specs.Fields.{choose};
 ghost use Rattle.bits.specs.Outcomes.{gives};

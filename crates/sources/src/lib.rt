@@ -1,4 +1,6 @@
 // What source bytes mean, and which of them are legal.
+#![tactic(auto)]
+
 ghost use Rattle.std.specs.Prelude.{◌≡◌, not, ◌<◌};
 ghost use Rattle.sources.specs.SourceMeaning.{source_meaning};
 ghost use Rattle.rows.specs.Sources.{is_reserved, special_at, pair_meaning, constant_meaning, meaning, source_legal};
@@ -7,7 +9,7 @@ ghost use Rattle.rows.specs.Served.Table.{page_word};
 use bits::fields::bits_at;
 
 // What a source byte means.
-#[derive(Drop)]
+#[derive(Clone, Copy)]
 pub enum Source {
     // A register, read plainly.
     Read(u8),

@@ -1,14 +1,14 @@
 -- The text for what a source byte means, in the syntax of Mesa's Valhall disassembler.
 use Rattle.std.specs.Prelude.{List, ◌++◌, ℕ, ◌+◌, ◌*◌}
 use Rattle.rows.specs.Names.{ascii}
-use Rattle.rows.specs.Sources.{Part, low_word, high_word_lem, Meaning, register_read, register_released, uniform, immediate, special, refused}
+use Rattle.rows.specs.Sources.{Part, low_word, high_word, Meaning, register_read, register_released, uniform, immediate, special, refused}
 use Rattle.text.specs.Text.{number_text}
-use Rattle.fieldtext.specs.Enumerations.{swizzle, is, special_text, value_width, special_width}
+use Rattle.fieldtext.specs.Enumerations.{special_text, value_width, special_width}
 
 -- a special constant is two words (02, Item 2), which Mesa's text calls w0 and w1
 abbrev pub part_text : Part → List ℕ
 part_text low_word = ascii ".w0"
-part_text high_word_lem = ascii ".w1"
+part_text high_word = ascii ".w1"
 
 -- what a source byte means: a register, with ^ where it is released; a uniform; an immediate in hexadecimal; a word of a special constant
 abbrev pub meaning_text : Meaning → List ℕ

@@ -1,4 +1,6 @@
 // A source of an instruction: what its byte means, its signs, and its swizzle.
+#![tactic(auto)]
+
 ghost use Rattle.std.specs.Prelude.{◌≡◌, ◌++◌, ◌+◌, ◌≤◌, length};
 ghost use Rattle.rows.specs.Sources.{special_at, meaning as meaning-of};
 ghost use Rattle.text.specs.Text.{Put};

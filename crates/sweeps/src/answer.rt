@@ -3,7 +3,7 @@ use container::layout::MOST_INSTRUCTIONS;
 use safety::verdict::Finding;
 
 // The number of sweeps that led to the annotations that are proposed, or why none are.
-#[derive(Drop)]
+#[derive(Clone, Copy)]
 pub enum Inference {
     Proposed(usize),
     Refused(Finding),

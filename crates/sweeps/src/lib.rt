@@ -1,4 +1,6 @@
 // The sweeps that lead to annotations: the plan that they go by, and what they leave, as bytes.
+#![tactic(auto)]
+
 pub mod answer;
 pub mod encode;
 pub mod plan;

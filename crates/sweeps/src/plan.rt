@@ -15,7 +15,7 @@ use verifier::program::reading_at;
 
 // The registers that an instruction kills, the halves that it fills, and where it goes on: the next instruction and the branch target, n
 // where there is none.
-#[derive(Drop)]
+#[derive(Clone, Copy)]
 pub struct Step {
     pub kills: u64,
     pub fills: Halves,

@@ -51,7 +51,7 @@ pub fn put_text(text: &[u8], out: &mut [u8]) -> usize
     requires { length text.now ≤ length out.old }
     ensures { Put text.now out.old out.new result }
 {
-    bytes::copy(text, out)
+    bits::bytes::copy(text, out)
 }
 
 // How many digits a number is written with.

@@ -1,4 +1,6 @@
 // The recorded trace: 64 numbers a step.
+#![tactic(auto)]
+
 ghost use Rattle.std.specs.Prelude.{◌≡◌, ◌+◌, ◌*◌, ◌≤◌, eqb, length};
 ghost use Rattle.bits.specs.Fields.{choose};
 ghost use Rattle.bits.specs.Sets.{lowest_from};

@@ -1,4 +1,6 @@
 // The run-only examples of paper 01 on words and records: a line for each, with the answer.
+#![tactic(auto)]
+
 use codec::{read_word, write_word};
 use reader::answer::Reading;
 use record::answer::{Fresh, Refusal};
@@ -6,59 +8,59 @@ use record::instruction::{Instruction, MODIFIERS, Modifiers, Sources};
 use sources::Source;
 use writer::answer::Written;
 
-fn text(s: &[u8]) {
-    io::write_all(libc::STDOUT_FILENO, s);
+fn text(output: &impl Print, s: &[u8]) {
+    output.write_all(s).is_ok();
 }
 
-fn number(n: u64) {
-    io::print_decimal(libc::STDOUT_FILENO, n);
+fn number(output: &impl Print, n: u64) {
+    output.print(n).is_ok();
 }
 
-fn say_refusal(f: Refusal) {
-    text(b"refused ");
-    number(f.number as u64);
-    text(b" ");
-    number(f.place as u64);
+fn say_refusal(output: &impl Print, f: Refusal) {
+    text(output, b"refused ");
+    number(output, f.number as u64);
+    text(output, b" ");
+    number(output, f.place as u64);
 }
 
-fn say_start(bytes: &[u8], len: usize) {
+fn say_start(output: &impl Print, bytes: &[u8], len: usize) {
     if len <= bytes.len() {
-        text(&bytes[..len]);
+        text(output, &bytes[..len]);
     }
 }
 
-fn say_name(row: usize) {
+fn say_name(output: &impl Print, row: usize) {
     let n = rows::names::of_row(row);
     let bytes = n.bytes;
     let len = n.len as usize;
-    say_start(&bytes, len);
+    say_start(output, &bytes, len);
 }
 
 // What bytes read as.
-fn reads(label: &[u8], bytes: &[u8]) {
-    text(b"read ");
-    text(label);
-    text(b": ");
+fn reads(output: &impl Print, label: &[u8], bytes: &[u8]) {
+    text(output, b"read ");
+    text(output, label);
+    text(output, b": ");
     let r = read_word(bytes);
     match r {
-        Reading::Read(i) => say_name(i.row as usize),
-        Reading::Refused(f) => say_refusal(f),
+        Reading::Read(i) => say_name(output, i.row as usize),
+        Reading::Refused(f) => say_refusal(output, f),
     }
-    text(b"\n");
+    text(output, b"\n");
 }
 
-fn reads_word(w: u64) {
+fn reads_word(output: &impl Print, w: u64) {
     let mut bytes = [0u8; 8];
     bits::bytes::store64(w, &mut bytes);
-    text(b"read ");
-    io::print_hex(libc::STDOUT_FILENO, w, 16);
-    text(b": ");
+    text(output, b"read ");
+    print!(output; "{:016x}", w).is_ok();
+    text(output, b": ");
     let r = read_word(&bytes);
     match r {
-        Reading::Read(i) => say_name(i.row as usize),
-        Reading::Refused(f) => say_refusal(f),
+        Reading::Read(i) => say_name(output, i.row as usize),
+        Reading::Refused(f) => say_refusal(output, f),
     }
-    text(b"\n");
+    text(output, b"\n");
 }
 
 // Whether each byte of a buffer is still 0xA5.
@@ -73,42 +75,42 @@ fn kept(buffer: &[u8]) -> bool {
     true
 }
 
-fn say_kept(buffer: &[u8]) {
+fn say_kept(output: &impl Print, buffer: &[u8]) {
     if kept(buffer) {
-        text(b", buffer kept\n");
+        text(output, b", buffer kept\n");
     } else {
-        text(b", buffer changed\n");
+        text(output, b", buffer changed\n");
     }
 }
 
 // What writing a record into a buffer of 0xA5 bytes gives.
-fn writes(label: &[u8], i: Instruction, buffer: &mut [u8]) {
-    text(b"write ");
-    text(label);
-    text(b": ");
+fn writes(output: &impl Print, label: &[u8], i: Instruction, buffer: &mut [u8]) {
+    text(output, b"write ");
+    text(output, label);
+    text(output, b": ");
     let w = write_word(i, buffer);
     match w {
-        Written::Done => text(b"done"),
-        Written::Refused(f) => say_refusal(f),
+        Written::Done => text(output, b"done"),
+        Written::Refused(f) => say_refusal(output, f),
     }
-    say_kept(buffer);
+    say_kept(output, buffer);
 }
 
 // The word that a record is written as.
-fn writes_word(label: &[u8], i: Instruction) {
+fn writes_word(output: &impl Print, label: &[u8], i: Instruction) {
     let mut buffer = [0xA5u8; 8];
-    text(b"write ");
-    text(label);
-    text(b": ");
+    text(output, b"write ");
+    text(output, label);
+    text(output, b": ");
     let w = write_word(i, &mut buffer);
     match w {
         Written::Done => {
-            io::print_hex(libc::STDOUT_FILENO, bits::bytes::load64(&buffer), 16);
-            text(b"\n");
+            print!(output; "{:016x}", bits::bytes::load64(&buffer)).is_ok();
+            text(output, b"\n");
         }
         Written::Refused(f) => {
-            say_refusal(f);
-            say_kept(&buffer);
+            say_refusal(output, f);
+            say_kept(output, &buffer);
         }
     }
 }
@@ -148,121 +150,121 @@ fn branch(offset: i32) -> Instruction {
 }
 
 // Row 77 is none.
-fn past_the_table() {
+fn past_the_table(output: &impl Print) {
     let mut i = fresh(0);
     i.row = 77;
     let mut buffer = [0xA5u8; 8];
-    writes(b"row 77", i, &mut buffer);
-    text(b"fresh 77: ");
+    writes(output, b"row 77", i, &mut buffer);
+    text(output, b"fresh 77: ");
     let a = Instruction::fresh(77);
     match a {
-        Fresh::Made(_) => text(b"made"),
-        Fresh::Refused(f) => say_refusal(f),
+        Fresh::Made(_) => text(output, b"made"),
+        Fresh::Refused(f) => say_refusal(output, f),
     }
-    text(b"\n");
+    text(output, b"\n");
 }
 
-fn lengths() {
+fn lengths(output: &impl Print) {
     let bytes = [0u8; 16];
-    reads(b"0 bytes", &bytes[..0]);
-    reads(b"7 bytes", &bytes[..7]);
-    reads(b"9 bytes", &bytes[..9]);
-    reads(b"16 bytes", &bytes);
+    reads(output, b"0 bytes", &bytes[..0]);
+    reads(output, b"7 bytes", &bytes[..7]);
+    reads(output, b"9 bytes", &bytes[..9]);
+    reads(output, b"16 bytes", &bytes);
     let i = fresh(0);
     let mut none = [0xA5u8; 1];
-    writes(b"into 0 bytes", i, &mut none[..0]);
+    writes(output, b"into 0 bytes", i, &mut none[..0]);
     let mut seven = [0xA5u8; 7];
-    writes(b"into 7 bytes", i, &mut seven);
+    writes(output, b"into 7 bytes", i, &mut seven);
     let mut nine = [0xA5u8; 9];
-    writes(b"into 9 bytes", i, &mut nine);
+    writes(output, b"into 9 bytes", i, &mut nine);
 }
 
 // FADD.f32 with a stray bit, a reserved flow, an empty half mask, a refused widening and a refused source, mended one by one.
-fn faults() {
-    reads_word(0xD8A40000300002E0);
-    reads_word(0x58A40000300002E0);
-    reads_word(0x00A40000300002E0);
-    reads_word(0x00A4C000300002E0);
-    reads_word(0x00A4C000000002E0);
-    reads_word(0x00A4C00000000201);
+fn faults(output: &impl Print) {
+    reads_word(output, 0xD8A40000300002E0);
+    reads_word(output, 0x58A40000300002E0);
+    reads_word(output, 0x00A40000300002E0);
+    reads_word(output, 0x00A4C000300002E0);
+    reads_word(output, 0x00A4C000000002E0);
+    reads_word(output, 0x00A4C00000000201);
 }
 
 // The names of the special constants, by their numbers in the enumerations of pages 0, 1 and 3.
-fn say_page_0(value: u8) {
+fn say_page_0(output: &impl Print, value: u8) {
     match value {
-        2 => text(b"warp_id"),
-        4 => text(b"framebuffer_size"),
-        5 => text(b"atest_datum"),
-        6 => text(b"sample"),
+        2 => text(output, b"warp_id"),
+        4 => text(output, b"framebuffer_size"),
+        5 => text(output, b"atest_datum"),
+        6 => text(output, b"sample"),
         8..=15 => {
-            text(b"blend_descriptor_");
-            number(value as u64 & 7);
+            text(output, b"blend_descriptor_");
+            number(output, value as u64 & 7);
         }
-        _ => text(b"?"),
+        _ => text(output, b"?"),
     }
 }
 
-fn say_page_1(value: u8) {
+fn say_page_1(output: &impl Print, value: u8) {
     match value {
-        1 => text(b"thread_local_pointer"),
-        3 => text(b"workgroup_local_pointer"),
-        7 => text(b"resource_table_pointer"),
-        _ => text(b"?"),
+        1 => text(output, b"thread_local_pointer"),
+        3 => text(output, b"workgroup_local_pointer"),
+        7 => text(output, b"resource_table_pointer"),
+        _ => text(output, b"?"),
     }
 }
 
-fn say_page_3(value: u8) {
+fn say_page_3(output: &impl Print, value: u8) {
     match value {
-        1 => text(b"lane_id"),
-        3 => text(b"core_id"),
-        15 => text(b"program_counter"),
-        _ => text(b"?"),
+        1 => text(output, b"lane_id"),
+        3 => text(output, b"core_id"),
+        15 => text(output, b"program_counter"),
+        _ => text(output, b"?"),
     }
 }
 
-fn say_special(page: u8, value: u8, word: &[u8]) {
+fn say_special(output: &impl Print, page: u8, value: u8, word: &[u8]) {
     match page {
-        0 => say_page_0(value),
-        1 => say_page_1(value),
-        3 => say_page_3(value),
-        _ => text(b"?"),
+        0 => say_page_0(output, value),
+        1 => say_page_1(output, value),
+        3 => say_page_3(output, value),
+        _ => text(output, b"?"),
     }
-    text(word);
+    text(output, word);
 }
 
-fn say_register(r: u8, rest: &[u8]) {
-    text(b"r");
-    number(r as u64);
-    text(rest);
+fn say_register(output: &impl Print, r: u8, rest: &[u8]) {
+    text(output, b"r");
+    number(output, r as u64);
+    text(output, rest);
 }
 
 // What a source byte means.
-fn say_meaning(page: u8, byte: u8) {
+fn say_meaning(output: &impl Print, page: u8, byte: u8) {
     let m = sources::meaning(page, byte);
     match m {
-        Source::Read(r) => say_register(r, b""),
-        Source::Released(r) => say_register(r, b" released"),
+        Source::Read(r) => say_register(output, r, b""),
+        Source::Released(r) => say_register(output, r, b" released"),
         Source::Uniform(u) => {
-            text(b"uniform ");
-            number(u as u64);
+            text(output, b"uniform ");
+            number(output, u as u64);
         }
         Source::Immediate(v) => {
-            text(b"immediate ");
-            io::print_hex(libc::STDOUT_FILENO, v as u64, 8);
+            text(output, b"immediate ");
+            print!(output; "{:08x}", v as u64).is_ok();
         }
-        Source::SpecialLow(value) => say_special(page, value, b", low word"),
-        Source::SpecialHigh(value) => say_special(page, value, b", high word"),
-        Source::Refused => text(b"no source"),
+        Source::SpecialLow(value) => say_special(output, page, value, b", low word"),
+        Source::SpecialHigh(value) => say_special(output, page, value, b", high word"),
+        Source::Refused => text(output, b"no source"),
     }
 }
 
 // What MOV.i32 with an entry of the constants as its source reads as, and what the entry means.
-fn special_entry(page: u8, entry: u8) {
-    text(b"page ");
-    number(page as u64);
-    text(b", entry ");
-    number(entry as u64);
-    text(b": ");
+fn special_entry(output: &impl Print, page: u8, entry: u8) {
+    text(output, b"page ");
+    number(output, page as u64);
+    text(output, b", entry ");
+    number(output, entry as u64);
+    text(output, b": ");
     let mut bytes = [0u8; 8];
     bits::bytes::store64(
         0x0091C100000000C0 | entry as u64 | (page as u64) << 57,
@@ -270,108 +272,109 @@ fn special_entry(page: u8, entry: u8) {
     );
     let r = read_word(&bytes);
     match r {
-        Reading::Read(_) => text(b"read"),
-        Reading::Refused(f) => say_refusal(f),
+        Reading::Read(_) => text(output, b"read"),
+        Reading::Refused(f) => say_refusal(output, f),
     }
-    text(b", ");
-    say_meaning(page, 192 | entry);
-    text(b"\n");
+    text(output, b", ");
+    say_meaning(output, page, 192 | entry);
+    text(output, b"\n");
 }
 
-fn special_entries(page: u8) {
+fn special_entries(output: &impl Print, page: u8) {
     let mut entry = 32;
     while entry < 64 {
-        special_entry(page, entry);
+        special_entry(output, page, entry);
         entry += 1;
     }
 }
 
 // What a byte means.
-fn byte(page: u8, b: u8) {
-    text(b"page ");
-    number(page as u64);
-    text(b", byte ");
-    number(b as u64);
-    text(b": ");
-    say_meaning(page, b);
-    text(b"\n");
+fn byte(output: &impl Print, page: u8, b: u8) {
+    text(output, b"page ");
+    number(output, page as u64);
+    text(output, b", byte ");
+    number(output, b as u64);
+    text(output, b": ");
+    say_meaning(output, page, b);
+    text(output, b"\n");
 }
 
 // The first and the last byte of registers, released registers and uniforms.
-fn ends(page: u8) {
-    byte(page, 0);
-    byte(page, 63);
-    byte(page, 64);
-    byte(page, 127);
-    byte(page, 128);
-    byte(page, 191);
+fn ends(output: &impl Print, page: u8) {
+    byte(output, page, 0);
+    byte(output, page, 63);
+    byte(output, page, 64);
+    byte(output, page, 127);
+    byte(output, page, 128);
+    byte(output, page, 191);
 }
 
-fn immediates() {
+fn immediates(output: &impl Print) {
     let mut b = 192;
     while b < 224 {
-        byte(2, b);
+        byte(output, 2, b);
         b += 1;
     }
 }
 
 // A row's default, written and read back: its number, its name and its word.
-fn row_default(row: usize) {
-    number(row as u64);
-    text(b" ");
-    say_name(row);
-    text(b" ");
+fn row_default(output: &impl Print, row: usize) {
+    number(output, row as u64);
+    text(output, b" ");
+    say_name(output, row);
+    text(output, b" ");
     let mut buffer = [0u8; 8];
     write_word(fresh(row), &mut buffer);
-    io::print_hex(libc::STDOUT_FILENO, bits::bytes::load64(&buffer), 16);
-    text(b" ");
+    print!(output; "{:016x}", bits::bytes::load64(&buffer)).is_ok();
+    text(output, b" ");
     let r = read_word(&buffer);
     match r {
-        Reading::Read(i) => say_again(i, buffer),
-        Reading::Refused(f) => say_refusal(f),
+        Reading::Read(i) => say_again(output, i, buffer),
+        Reading::Refused(f) => say_refusal(output, f),
     }
-    text(b"\n");
+    text(output, b"\n");
 }
 
 // Whether a record that was read is written as the same word.
-fn say_again(i: Instruction, word: [u8; 8]) {
+fn say_again(output: &impl Print, i: Instruction, word: [u8; 8]) {
     let mut again = [0u8; 8];
     write_word(i, &mut again);
     if bits::bytes::load64(&again) == bits::bytes::load64(&word) {
-        text(b"again");
+        text(output, b"again");
     } else {
-        text(b"other");
+        text(output, b"other");
     }
 }
 
-fn defaults() {
+fn defaults(output: &impl Print) {
     let mut row = 0;
     while row < Instruction::ROWS {
-        row_default(row);
+        row_default(output, row);
         row += 1;
     }
 }
 
-fn offsets() {
-    writes_word(b"offset 67108864", branch(67108864));
-    writes_word(b"offset 67108863", branch(67108863));
-    writes_word(b"offset -67108864", branch(-67108864));
-    writes_word(b"offset -67108865", branch(-67108865));
+fn offsets(output: &impl Print) {
+    writes_word(output, b"offset 67108864", branch(67108864));
+    writes_word(output, b"offset 67108863", branch(67108863));
+    writes_word(output, b"offset -67108864", branch(-67108864));
+    writes_word(output, b"offset -67108865", branch(-67108865));
 }
 
-fn main() {
-    lengths();
-    reads_word(0x0091C10000000102);
-    reads_word(0x0091010000000002);
-    past_the_table();
-    offsets();
-    faults();
-    special_entries(0);
-    special_entries(1);
-    special_entries(2);
-    special_entries(3);
-    ends(0);
-    ends(3);
-    immediates();
-    defaults();
+fn main(rt: HostRuntime) {
+    let output = rt.stdout();
+    lengths(&output);
+    reads_word(&output, 0x0091C10000000102);
+    reads_word(&output, 0x0091010000000002);
+    past_the_table(&output);
+    offsets(&output);
+    faults(&output);
+    special_entries(&output, 0);
+    special_entries(&output, 1);
+    special_entries(&output, 2);
+    special_entries(&output, 3);
+    ends(&output, 0);
+    ends(&output, 3);
+    immediates(&output);
+    defaults(&output);
 }

@@ -1,4 +1,6 @@
 // The line of a verdict, as the lister writes it (01, The lister), made in a buffer that the caller lends.
+#![tactic(auto)]
+
 ghost use Rattle.std.specs.Prelude.{◌≡◌, [], ◌∷◌, ◌++◌, ◌≤◌, length};
 ghost use Rattle.bits.specs.Outcomes.{refuses};
 ghost use Rattle.safety.specs.Verdict.{verdict_outcome};

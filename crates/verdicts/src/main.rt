@@ -1,6 +1,8 @@
 // Verifies each container of its standard input and writes a line for each, with the verdict: the run-only parcels of paper 01, and
 // parcels of version 2.
 // The input is a sequence of entries: a label of 32 bytes, a length of four bytes, the lowest first, and as many bytes.
+#![tactic(auto)]
+
 ghost use Rattle.std.specs.Prelude.{◌+◌, ◌<◌, ◌≤◌, length};
 
 use bits::bytes::wide;
@@ -9,41 +11,41 @@ use verifier::verify;
 
 const LABEL: usize = 32;
 
-fn text(s: &[u8]) {
-    io::write_all(libc::STDOUT_FILENO, s);
+fn text(output: &impl Print, s: &[u8]) {
+    output.write_all(s).is_ok();
 }
 
-fn number(n: u64) {
-    text(b" ");
-    io::print_decimal(libc::STDOUT_FILENO, n);
+fn number(output: &impl Print, n: u64) {
+    text(output, b" ");
+    output.print(n).is_ok();
 }
 
-fn say_half(half: Reported) {
+fn say_half(output: &impl Print, half: Reported) {
     match half {
         Reported::Neither => {}
-        Reported::Low => text(b"L"),
-        Reported::High => text(b"H"),
+        Reported::Low => text(output, b"L"),
+        Reported::High => text(output, b"H"),
     }
 }
 
 // Number, place, instruction, register with the half.
-fn say_finding(f: Finding) {
+fn say_finding(output: &impl Print, f: Finding) {
     let half = f.half;
-    text(b" REFUSED");
-    number(f.number as u64);
-    number(f.place as u64);
-    number(f.index as u64);
-    number(f.register as u64);
-    say_half(half);
+    text(output, b" REFUSED");
+    number(output, f.number as u64);
+    number(output, f.place as u64);
+    number(output, f.index as u64);
+    number(output, f.register as u64);
+    say_half(output, half);
 }
 
-fn say_verdict(container: &[u8]) {
+fn say_verdict(output: &impl Print, container: &[u8]) {
     let v = verify(container);
     match v {
-        Verdict::Accepted => text(b" ACCEPTED"),
-        Verdict::Refused(f) => say_finding(f),
+        Verdict::Accepted => text(output, b" ACCEPTED"),
+        Verdict::Refused(f) => say_finding(output, f),
     }
-    text(b"\n");
+    text(output, b"\n");
 }
 
 // The length that an entry says, from its four bytes.
@@ -55,7 +57,7 @@ fn length_at(s: &[u8], at: usize) -> usize
 }
 
 // The entry at a place, and the place after it; the end where it is cut off.
-fn entry_at(s: &[u8], at: usize) -> usize
+fn entry_at(output: &impl Print, s: &[u8], at: usize) -> usize
     requires { at < length s.now }
     ensures { (at < result) × (result ≤ length s.now) }
 {
@@ -69,22 +71,23 @@ fn entry_at(s: &[u8], at: usize) -> usize
         return s.len();
     }
     let end = start + n;
-    text(&s[at..counted]);
-    say_verdict(&s[start..end]);
+    text(output, &s[at..counted]);
+    say_verdict(output, &s[start..end]);
     end
 }
 
-fn entries(s: &[u8]) {
+fn entries(output: &impl Print, s: &[u8]) {
     let mut at = 0;
     while at < s.len() {
-        at = entry_at(s, at);
+        at = entry_at(output, s, at);
     }
 }
 
-fn main() {
+fn main(rt: HostRuntime) {
+    let output = rt.stdout();
     let mut buffer = [0u8; 131072];
-    let n = io::read_full(libc::STDIN_FILENO, &mut buffer);
+    let n = input::read_full(&mut rt.stdin(), &mut buffer);
     if n <= 131072 {
-        entries(&buffer[..n]);
+        entries(&output, &buffer[..n]);
     }
 }

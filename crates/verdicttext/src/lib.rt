@@ -1,2 +1,4 @@
 // A verdict in words, for a person.
+#![tactic(auto)]
+
 pub mod words;

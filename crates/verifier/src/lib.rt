@@ -1,5 +1,7 @@
 // The verifier (the paper's check): whether a container's annotations prove that no walk reads a half of a register that
 // is not defined there.
+#![tactic(auto)]
+
 ghost use Rattle.std.specs.Prelude.{◌≡◌};
 ghost use Rattle.bits.specs.Outcomes.{passes};
 ghost use Rattle.safety.specs.Verdict.{verdict_outcome, verdict_of, all_read};

@@ -1,4 +1,6 @@
 // The word at an index of a container, and how many there are.
+#![tactic(auto)]
+
 ghost use Rattle.std.specs.Prelude.{◌≡◌};
 ghost use Rattle.view.specs.Words.{fetched_outcome, word_outcome, open_count};
 
@@ -10,14 +12,14 @@ use container::layout::{SHORTEST_HEADER, WORD_LENGTH};
 const NO_WORD: u8 = 14;
 
 // What asking for a word finds: the word, or the number of a refusal.
-#[derive(Drop)]
+#[derive(Clone, Copy)]
 pub enum Fetched {
     Word(u64),
     Missing(u8),
 }
 
 // A container's bytes, and how many instructions they hold.
-#[derive(Drop)]
+#[derive(Clone, Copy)]
 pub struct View<'a> {
     pub bytes: &'a [u8],
     pub n: usize,

@@ -1,5 +1,7 @@
 // Reads a container from standard input and writes it to standard output for a person: the parcel, its program line by line, the verdict in
 // words. A program here has no exit status, so what fails is told on standard error.
+#![tactic(auto)]
+
 ghost use Rattle.std.specs.Prelude.{◌≡◌, length};
 ghost use Rattle.input.specs.declared.Input.TheVariants.{Bytes};
 ghost use Rattle.input.specs.Input.{Within};
@@ -9,53 +11,56 @@ ghost use Rattle.show.specs.Show.{shown};
 use container::layout::LONGEST_CONTAINER;
 use input::Input;
 use show::LONGEST;
+use std::io::Read;
 
 // One byte more than the longest container: what is longer is refused by this part alone.
 const MOST: usize = LONGEST_CONTAINER + 1;
 
 // Reads that part, or all where there is less.
-fn read_part(buffer: &mut [u8]) -> Input
+fn read_part(reader: &mut impl Read, buffer: &mut [u8]) -> Input
     requires { length buffer.old ≡ read_length }
     ensures { Within result read_length }
 {
-    input::fill(buffer)
+    input::fill(reader, buffer)
 }
 
-fn complain(text: &[u8]) -> bool {
-    io::write_all(libc::STDERR_FILENO, text)
+fn complain(errors: &impl Print, text: &[u8]) -> bool {
+    errors.write_all(text).is_ok()
 }
 
 // The one way to standard output: the text is what is shown of the bytes. It is written until all of it is, or until a write fails.
-fn send(bytes: &[u8], text: &[u8]) -> bool
+fn send(output: &impl Print, bytes: &[u8], text: &[u8]) -> bool
     requires { text.now ≡ shown bytes.now }
 {
-    io::write_all(libc::STDOUT_FILENO, text)
+    output.write_all(text).is_ok()
 }
 
 // Shows the bytes, which are as many as were read.
-fn display(bytes: &[u8], input: Input) -> bool
+fn display(output: &impl Print, bytes: &[u8], input: Input) -> bool
     requires { input ≡ Bytes (length bytes.now) }
 {
     let mut out = [0u8; LONGEST];
     let n = show::write(bytes, &mut out);
-    send(bytes, &out[..n])
+    send(output, bytes, &out[..n])
 }
 
-fn report(bytes: &[u8], input: Input)
+fn report(output: &impl Print, errors: &impl Print, bytes: &[u8], input: Input)
     requires { input ≡ Bytes (length bytes.now) }
 {
-    if !display(bytes, input) {
-        complain(b"viewer: standard output cannot be written\n");
+    if !display(output, bytes, input) {
+        complain(errors, b"viewer: standard output cannot be written\n");
     }
 }
 
-fn main() {
+fn main(rt: HostRuntime) {
+    let output = rt.stdout();
+    let errors = rt.stderr();
     let mut buffer = [0u8; MOST];
-    let input = read_part(&mut buffer);
+    let input = read_part(&mut rt.stdin(), &mut buffer);
     match input {
-        Input::Bytes(n) => report(&buffer[..n], input),
+        Input::Bytes(n) => report(&output, &errors, &buffer[..n], input),
         Input::Failed => {
-            complain(b"viewer: standard input cannot be read\n");
+            complain(&errors, b"viewer: standard input cannot be read\n");
         }
     }
 }

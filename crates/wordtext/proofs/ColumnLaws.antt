@@ -1,17 +1,14 @@
 -- What stands for a word, by what reading it gives. Assumes nothing.
-use mathlib.Core.Path.{◌≡◌, refl, sym, ap, ◌∙◌}
+use mathlib.Core.Path.{◌≡◌, refl}
 use mathlib.Core.Bool.{Bool, true, false, ◌&&◌, not}
 use mathlib.Core.List.{List, [], ◌∷◌, ◌++◌}
-use Prim.Native.Nat.{ℕ, suc, ◌+◌, ◌<◌, ◌≤◌}
+use Prim.Native.Nat.{ℕ, ◌<◌, ◌≤◌}
 use native.Mathlib.Omega.{arith}
 use borrow.Author.Tests.{lt-ltb, le-ltb, eq-eqb, ne_eqb}
-use lib.Dec.{eqb, ltb}
-use lib.IntN.{pos, ◌+ℤ◌}
 use lib.ListN.{length}
-use Rattle.bits.specs.Fields.{choose}
 use Rattle.rows.specs.Names.{ascii}
 use Rattle.record.specs.declared.instruction.Instruction.{Instruction}
-use Rattle.record.specs.Registers.{ends, branches}
+use Rattle.record.specs.Registers.{branches}
 use Rattle.text.specs.Text.{decimal, number_text, Put}
 use Rattle.text.proofs.TextLaws.{put_nothing}
 use Rattle.leftout.specs.LeftOut.{left_out}

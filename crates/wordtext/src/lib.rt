@@ -1,2 +1,4 @@
 // What a person is shown for a word of a program.
+#![tactic(auto)]
+
 pub mod column;

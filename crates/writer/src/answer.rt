@@ -1,7 +1,7 @@
 use record::answer::Refusal;
 
 // What writing an instruction gives.
-#[derive(Drop)]
+#[derive(Clone, Copy)]
 pub enum Written {
     Done,
     Refused(Refusal),

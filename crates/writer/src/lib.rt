@@ -1,4 +1,6 @@
 // Writing instructions.
+#![tactic(auto)]
+
 ghost use Rattle.std.specs.Prelude.{◌≡◌};
 ghost use Rattle.bits.specs.Outcomes.{refuses};
 ghost use Rattle.record.specs.Answers.{refusal};

@@ -1,1 +1,3 @@
+#![tactic(auto)]
+
 // What writing a record gives, and what is proved of it: definitions and laws, no code.

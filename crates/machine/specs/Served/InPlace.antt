@@ -4,12 +4,12 @@ use Rattle.bits.specs.Fields.{choose}
 use Rattle.operations.specs.declared.Operation.{Operation}
 use Rattle.operations.specs.Served.Operations.{operand_worth}
 use Rattle.machine.specs.declared.Effect.{Effect}
-use Rattle.machine.specs.Steps.{result, takes_branch}
+use Rattle.machine.specs.Steps.{row_result, takes_branch}
 
 -- what an operation at index i does, from what its operands are worth: the number that it writes, and the index of the next instruction
 abbrev pub effect : Operation → ℕ → ℕ → ℕ → ℕ → Effect
 effect o i a b c = record {
-  number = result o.row o.modifiers a b c;
+  number = row_result o.row o.modifiers a b c;
   next = choose (takes_branch o.row o.modifiers a) o.jump (i + 1);
 }
 

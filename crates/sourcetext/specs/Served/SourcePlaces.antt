@@ -1,5 +1,5 @@
 -- The modifiers of a source by their index among all, as the code goes through them, and a source by them.
-use Rattle.std.specs.Prelude.{List, [], ◌∷◌, ◌++◌, ℕ, zero, suc, ◌+◌}
+use Rattle.std.specs.Prelude.{List, [], ◌∷◌, ◌++◌, ℕ, zero, suc}
 use Rattle.rows.specs.Sources.{meaning}
 use Rattle.fieldtext.specs.Served.Coded.{coded_texts}
 use Rattle.sourcetext.specs.SourceText.{meaning_text}

@@ -1,0 +1,6 @@
+use native.Mathlib.Omega.{arith}
+use Rattle.text.proofs.TextLaws.{put_next}
+use Rattle.difftext.proofs.told.put_extra.Goals as goal
+
+pub returns : goal.returns
+returns c = (put_next c.put_head-at.ensures.0 c.put_word.ensures.0, omega arith)

@@ -1,0 +1,27 @@
+// The same where a failed read counts as the end of the input.
+ghost use Rattle.std.specs.Prelude.{◌≤◌, length};
+
+use crate::{Input, read_some};
+use std::io::Read;
+
+// Reads until the buffer is full, the input ends or a read fails, and gives how many bytes it put at the buffer's start.
+pub fn read_full<R: Read>(reader: &mut R, buffer: &mut [u8]) -> usize
+    ensures { result ≤ length buffer.new }
+{
+    let mut at = 0;
+    while at < buffer.len() {
+        let more = read_some(reader, &mut buffer[at..]);
+        match more {
+            Input::Bytes(n) => {
+                if n == 0 {
+                    return at;
+                }
+                at += n;
+            }
+            Input::Failed => {
+                return at;
+            }
+        }
+    }
+    at
+}

@@ -1,0 +1,8 @@
+use mathlib.Core.Path.{refl}
+use Rattle.bits.specs.Bytes.{little_bytes}
+use Rattle.packing.specs.Packing.{front_bytes}
+use Rattle.packing.proofs.front.Goals as goal
+
+pub returns : goal.returns
+unfolding front_bytes little_bytes
+returns c = refl

@@ -1,0 +1,23 @@
+use mathlib.Core.Path.{sym, ap, ◌∙◌}
+use mathlib.Core.Bool.{not}
+use Prim.Native.Nat.{◌-◌}
+use borrow.Author.Tests.{eq-eqb, ne_eqb}
+use Rattle.trace.specs.Trace.{unlike}
+use Rattle.trace.proofs.LowestLaws.{lowest_hit, lowest_miss, lowest_end}
+use borrow.Author.Rules.{rules}
+use Rattle.trace.proofs.lowest_difference.Goals as goal
+
+pub returns-then-registers-r : goal.returns-then-registers-r
+returns-then-registers-r c =
+    let a = c.args in
+    sym (lowest_hit (unlike a.registers.now a.trace.now a.k) c.loop-r.r 64 c.loop-r-test.true (ap not (ne_eqb _ _ c.if-registers-r.true))) ∙ c.loop-r.invariant.2
+
+pub loop-r-preserved : goal.loop-r-preserved
+loop-r-preserved c =
+    let a = c.args in
+    (search rules, search rules, sym (lowest_miss (unlike a.registers.now a.trace.now a.k) c.loop-r.r 64 c.loop-r-test.true (ap not (eq-eqb _ _ c.if-registers-r.false))) ∙ c.loop-r.invariant.2)
+
+pub returns : goal.returns
+returns c =
+    let a = c.args in
+    sym (lowest_end (unlike a.registers.now a.trace.now a.k) c.loop-r.r 64 c.loop-r-test.false) ∙ c.loop-r.invariant.2

@@ -1,0 +1,15 @@
+use mathlib.Core.Path.{sym, ap}
+use native.Mathlib.Omega.{arith}
+use Rattle.rows.specs.Names.{ascii}
+use Rattle.safety.specs.declared.verdict.Verdict.{Verdict}
+use Rattle.safety.specs.Verdict.{verdict_outcome}
+use Rattle.verdictline.specs.VerdictLine.{verdict_line}
+use Rattle.text.proofs.TextLaws.{same_text}
+use Rattle.verdictline.proofs.put_verdict.Goals as goal
+
+pub returns-in-Accepted : goal.returns-in-Accepted
+unfolding verdict_line ascii
+returns-in-Accepted c = (
+  same_text (ap (λ (v : Verdict). verdict_line (verdict_outcome v)) (sym c.in-Accepted.is)) c.put_text.ensures,
+  omega (arith, c.put_text.ensures.counts),
+)

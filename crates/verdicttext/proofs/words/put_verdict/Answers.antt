@@ -1,0 +1,11 @@
+use mathlib.Core.Path.{sym, ap}
+use native.Mathlib.Omega.{arith}
+use Rattle.rows.specs.Names.{ascii}
+use Rattle.safety.specs.Verdict.{verdict_outcome}
+use Rattle.text.proofs.TextLaws.{same_text}
+use Rattle.verdicttext.specs.Words.{verdict_text}
+use Rattle.verdicttext.proofs.words.put_verdict.Goals as goal
+
+pub returns-in-Accepted : goal.returns-in-Accepted
+unfolding ascii verdict_text
+returns-in-Accepted c = (same_text (sym (ap (λ v. verdict_text (verdict_outcome v)) c.in-Accepted.is)) c.put_text.ensures, omega (arith, c.put_text.ensures.counts))

@@ -1,0 +1,22 @@
+use mathlib.Core.Path.{refl, ap, ◌∙◌}
+use Rattle.bits.specs.declared.halves.Halves.{Halves}
+use Rattle.safety.specs.Program.{program_in}
+use Rattle.bits.specs.Outcomes.{first}
+use Rattle.safety.specs.Verdict.{verdict_outcome, none_missing}
+use Rattle.safety.proofs.PassLaws.{entered, barred}
+use borrow.Author.Rules.{rules}
+use Rattle.verifier.proofs.program.judge_words.Goals as goal
+
+pub unreadable_from-requires : goal.unreadable_from-requires
+unfolding first
+unreadable_from-requires c = (c.requires.0, search rules, refl)
+
+pub returns-in-Accepted : goal.returns-in-Accepted
+returns-in-Accepted c =
+    let a = c.args in
+    entered a.words.now (program_in a.version a.words.now a.annotations.now a.n a.entry) (c.none_missing-v.ensures ∙ ap (λ (x : Halves). none_missing 23 0 x c.args.entry) c.annotation_at-first.ensures) (ap verdict_outcome c.in-Accepted.is) c.judge_instructions.ensures
+
+pub returns-in-Refused : goal.returns-in-Refused
+returns-in-Refused c =
+    let a = c.args in
+    barred a.words.now (program_in a.version a.words.now a.annotations.now a.n a.entry) (c.none_missing-v.ensures ∙ ap (λ (x : Halves). none_missing 23 0 x c.args.entry) c.annotation_at-first.ensures) (ap verdict_outcome c.in-Refused.is) c.unreadable_from.ensures
