@@ -55,9 +55,9 @@ def bare_functions(text):
             yield head[1]
 
 
-stated = 'pub fn stated(a: u8) -> u8\n    ensures { λ r. ⌜ r ≡ a ⌝ }\n{\n    a\n}\n'
+stated = 'pub fn stated(a: u8) -> u8\n    ensures { result ≡ a }\n{\n    a\n}\n'
 assert list(bare_functions('pub fn bare(a: u8) -> u8 {\n    a\n}\n\n' + stated)) == ['bare']
-assert list(bare_functions('pub fn bare(\n    a: u8,\n) -> u8\n    requires { ⌜ a < 2 ⌝ }\n{\n    a\n}\n' + stated)) == ['bare']
+assert list(bare_functions('pub fn bare(\n    a: u8,\n) -> u8\n    requires { a < 2 }\n{\n    a\n}\n' + stated)) == ['bare']
 assert not list(bare_functions(stated))
 
 

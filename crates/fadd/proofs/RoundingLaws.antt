@@ -1,4 +1,4 @@
--- `lib.Ieee`'s addition at binary32 is the exact sum, rounded once to nearest, ties to even (`Sum`). The library defines it so, by `round`, and
+-- The library's addition at binary32 is the exact sum, rounded once to nearest, ties to even (`Sum`). The library defines it so, by `round`, and
 -- here that is said of every number that single precision has. Assumes nothing.
 use mathlib.Core.Path.{◌≡◌, refl, sym, ap, ◌∙◌, subst}
 use mathlib.Core.Bool.{Bool, true, false, not, cond, ◌&&◌}

@@ -1,6 +1,6 @@
 -- "One single-precision addition rounded to nearest, ties to even" (02, Item 8), said of the exact sum and of all numbers that single precision has,
--- as IEEE 754 says it. `add` of `lib.Ieee`, which Single.antt uses, is such a sum (proofs/RoundingLaws.antt, `add_sums`); `Float` and `HasValue` are
--- `lib.Ieee`'s too. Sizes are counted in steps of 2 ^ -149, the smallest single-precision number above 0.
+-- as IEEE 754 says it. The library's `add`, which Single.antt uses, is such a sum (proofs/RoundingLaws.antt, `add_sums`); `Float` and `HasValue` are
+-- the library's too. Sizes are counted in steps of 2 ^ -149, the smallest single-precision number above 0.
 use Rattle.std.specs.Prelude.{◌≡◌, Bool, false, cond, ◌⊎◌, ℕ, ◌+◌, ◌-◌, ◌*◌, ◌^◌, ◌≤◌, ◌<◌, ltb, Float}
 use Rattle.std.specs.Bool.{beq}
 use Rattle.std.specs.Float.{nan, inf, fin}

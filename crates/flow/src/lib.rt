@@ -3,7 +3,7 @@
 
 ghost use Rattle.std.specs.Prelude.{◌≡◌, ◌+◌, ◌<◌, pos, ◌+ℤ◌};
 ghost use Rattle.bits.specs.Outcomes.{each};
-ghost use Rattle.record.specs.Registers.{kills as kills-of};
+ghost use Rattle.record.specs.Registers.{kills as kills_of};
 ghost use Rattle.safety.specs.Program.{successors, landing, fills, after, annotation_at, Annotated};
 ghost use Rattle.safety.specs.Verdict.{verdict_outcome, judge_successor, judge_flow};
 
@@ -33,7 +33,7 @@ pub fn fills(version: u64, x: Instruction) -> Halves
 
 // What is defined after an instruction before which `held` is.
 fn after(version: u64, x: Instruction, kills: u64, held: Halves) -> Halves
-    requires { kills ≡ kills-of x }
+    requires { kills ≡ kills_of x }
     ensures { result ≡ after version x held }
 {
     let f = fills(version, x);
@@ -103,7 +103,7 @@ fn judge_successors(
     kills: u64,
     before: Halves,
 ) -> Verdict
-    requires { Annotated version annotations.now n × (i < n) × (kills ≡ kills-of x) }
+    requires { Annotated version annotations.now n × (i < n) × (kills ≡ kills_of x) }
     ensures { verdict_outcome result ≡ each (judge_successor n (annotation_at version annotations.now) i (after version x before)) (successors x i) }
 {
     if x.ends() {

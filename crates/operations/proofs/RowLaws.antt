@@ -1,4 +1,4 @@
--- The nine rows are those of 02, Item 8, and of their modifiers those that `Takes-whole` tests are all that are a combine or a widen. Assumes
+-- The nine rows are those of 02, Item 8, and of their modifiers those that `takes_whole` tests are all that are a combine or a widen. Assumes
 -- nothing.
 use mathlib.Core.Path.{◌≡◌, refl}
 use mathlib.Core.Bool.{Bool, true, false}

@@ -1,6 +1,6 @@
 // Operands: sources looked up as far as they stay the same for a whole run.
 ghost use Rattle.std.specs.Prelude.{◌≡◌, get_or};
-ghost use Rattle.rows.specs.Sources.{meaning as meaning-of};
+ghost use Rattle.rows.specs.Sources.{meaning as meaning_of};
 ghost use Rattle.operations.specs.Served.Operations.{in_register, fixed, operand_of, operand_worth};
 
 use sources::{Source, meaning};
@@ -40,7 +40,7 @@ fn uniform_at(uniforms: &[u32], u: usize) -> u32
 
 // The operand that a source byte is on a page.
 pub(crate) fn operand_of(uniforms: &[u32], page: u8, b: u8) -> Operand
-    ensures { result ≡ operand_of uniforms.now (meaning-of page b) }
+    ensures { result ≡ operand_of uniforms.now (meaning_of page b) }
 {
     let m = meaning(page, b);
     match m {

@@ -3,7 +3,7 @@
 
 ghost use Rattle.std.specs.Prelude.{◌≡◌, ◌++◌, ◌+◌, ◌<◌, ◌≤◌, length};
 ghost use Rattle.bits.specs.Sets.{lowest as lowest_of};
-ghost use Rattle.bits.specs.Halves.{either as either-of};
+ghost use Rattle.bits.specs.Halves.{either as either_of};
 ghost use Rattle.text.specs.Text.{number_text, Put};
 ghost use Rattle.registertext.specs.Registers.{mask_at, mask_letter, same_before, same_after, member_text, registers_text, longest_registers};
 
@@ -72,7 +72,7 @@ fn put_register(label: &[u8], r: u64, mask: u64, out: &mut [u8]) -> usize
 
 // What register r adds to the text of a set whose lowest register is `low`.
 fn put_member(s: Halves, low: u32, r: u64, out: &mut [u8]) -> usize
-    requires { (low ≡ lowest_of (either-of s)) × (r < 64) × (5 ≤ length out.old) }
+    requires { (low ≡ lowest_of (either_of s)) × (r < 64) × (5 ≤ length out.old) }
     ensures { Put (member_text s r) out.old out.new result × (result ≤ 5) }
 {
     let mask = mask_at(s, r);

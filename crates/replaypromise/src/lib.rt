@@ -1,3 +1,2 @@
-#![tactic(auto)]
-
 // What a replay owes, whatever its code is. There is no code here.
+#![tactic(auto)]

@@ -1,7 +1,7 @@
 // Verdicts, and the test for missing halves of registers that most refusals come from.
 ghost use Rattle.std.specs.Prelude.{◌≡◌, ◌<◌};
 ghost use Rattle.bits.specs.Sets.{lowest as lowest_of};
-ghost use Rattle.bits.specs.Halves.{either as either-of};
+ghost use Rattle.bits.specs.Halves.{either as either_of};
 ghost use Rattle.bits.specs.Outcomes.{refuses};
 ghost use Rattle.safety.specs.Verdict.{finding, plain, verdict_outcome, reported, lowest_half, none_of, none_missing};
 
@@ -71,7 +71,7 @@ pub fn refused(number: u8, place: u8, index: usize) -> Verdict
 
 // Of some halves, whose lowest register is r, the half that is told.
 fn half_told(s: Halves, r: u32) -> Reported
-    requires { (r ≡ lowest_of (either-of s)) × (r < 64) }
+    requires { (r ≡ lowest_of (either_of s)) × (r < 64) }
     ensures { result ≡ reported (lowest_half s) }
 {
     if bits_at(s.low, r as u64, 1) == 1 {

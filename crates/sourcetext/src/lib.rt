@@ -2,7 +2,7 @@
 #![tactic(auto)]
 
 ghost use Rattle.std.specs.Prelude.{◌≡◌, ◌++◌, ◌+◌, ◌≤◌, length};
-ghost use Rattle.rows.specs.Sources.{special_at, meaning as meaning-of};
+ghost use Rattle.rows.specs.Sources.{special_at, meaning as meaning_of};
 ghost use Rattle.text.specs.Text.{Put};
 ghost use Rattle.fieldtext.specs.Enumerations.{special_text, special_width};
 ghost use Rattle.fieldtext.specs.Served.Coded.{value_list};
@@ -36,7 +36,7 @@ fn put_part(page: u8, i: u8, part: &[u8], out: &mut [u8]) -> usize
 // What a source byte means.
 fn put_meaning(page: u8, byte: u8, out: &mut [u8]) -> usize
     requires { special_width + 3 ≤ length out.old }
-    ensures { Put (meaning_text (meaning-of page byte)) out.old out.new result × (result ≤ special_width + 3) }
+    ensures { Put (meaning_text (meaning_of page byte)) out.old out.new result × (result ≤ special_width + 3) }
 {
     let m = meaning(page, byte);
     match m {

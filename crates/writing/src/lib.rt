@@ -1,3 +1,2 @@
-#![tactic(auto)]
-
 // What writing a record gives, and what is proved of it: definitions and laws, no code.
+#![tactic(auto)]
