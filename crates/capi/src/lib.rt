@@ -1,4 +1,4 @@
-// The exported functions for C and Rust: numbers, byte slices and fixed arrays only.
+// The functions for C and Rust, which capi_c exports: numbers, byte slices and fixed arrays only.
 #![tactic(auto)]
 
 ghost use Rattle.std.specs.Prelude.{◌≡◌, length};

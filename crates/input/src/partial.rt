@@ -1,4 +1,4 @@
-// The same where a failed read counts as the end of the input.
+// Reading as `fill` does, but a failed read counts as the end of the input.
 ghost use Rattle.std.specs.Prelude.{◌≤◌, length};
 
 use crate::{Input, read_some};

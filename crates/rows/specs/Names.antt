@@ -26,7 +26,7 @@ filled s = s ++ replicate (name_width - length s) 32
 unfoldable pub name : ℕ → Name
 name k = record { bytes = filled (name_of k); len = length (name_of k) }
 
--- the names of all rows in their order, each in name-width bytes, one after another
+-- the names of all rows in their order, each in name_width bytes, one after another
 unfoldable pub names : List ℕ
 names = flatten (map (λ (r : Row). filled (ascii r.name)) rows)
 
