@@ -7,3 +7,4 @@ pub mod FirstLaws
 pub mod HalfLaws
 pub mod SignedLaws
 pub mod ListLaws
+pub mod OptionLaws

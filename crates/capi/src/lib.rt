@@ -29,9 +29,9 @@ use difflist::diff_lines;
 use disasm::put_instruction;
 use form::{form_of, instruction_of_form, padded};
 use infer::infer;
-use opcoderows::{RowFound, row_with};
-use reader::answer::Reading;
-use record::answer::Fresh;
+use opcoderows::row_with;
+
+
 use record::instruction::Instruction;
 use replay::{Replayed, replay};
 use replaycode::stop_code;
@@ -39,7 +39,7 @@ use safety::verdict::Verdict;
 use sweeps::answer::Inference;
 use text::name::put_name;
 use verifier::verify;
-use writer::answer::Written;
+
 
 // Room for any text and any name, with the 0 after it: VSP_TEXT and VSP_NAME of the header.
 pub const TEXT: usize = 534;
@@ -53,8 +53,8 @@ pub fn vsp_check(container: &[u8]) -> u64
 {
     let v = verify(container);
     match v {
-        Verdict::Accepted => 0,
-        Verdict::Refused(f) => finding_code(f),
+        Ok(()) => 0,
+        Err(f) => finding_code(f),
     }
 }
 
@@ -128,11 +128,11 @@ pub fn vsp_read(word: &[u8], form: &mut [u8; 32]) -> u32
 {
     let r = read_word(word);
     match r {
-        Reading::Read(i) => {
+        Ok(i) => {
             *form = form_of(i);
             0
         }
-        Reading::Refused(f) => refusal_code(f),
+        Err(f) => refusal_code(f),
     }
 }
 
@@ -153,8 +153,8 @@ pub fn vsp_write(form: &[u8; 32], word: &mut [u8]) -> u32
     }
     let w = write_word(instruction_of_form(f), word);
     match w {
-        Written::Done => 0,
-        Written::Refused(r) => refusal_code(r),
+        Ok(()) => 0,
+        Err(r) => refusal_code(r),
     }
 }
 
@@ -165,11 +165,11 @@ pub fn vsp_fresh(row: usize, form: &mut [u8; 32]) -> u32
 {
     let a = Instruction::fresh(row);
     match a {
-        Fresh::Made(i) => {
+        Ok(i) => {
             *form = form_of(i);
             0
         }
-        Fresh::Refused(f) => refusal_code(f),
+        Err(f) => refusal_code(f),
     }
 }
 
@@ -179,8 +179,8 @@ pub fn vsp_row_of(opcode: u64, k: u64) -> u32
 {
     let found = row_with(opcode, k);
     match found {
-        RowFound::Row(row) => row as u32,
-        RowFound::None => 255,
+        Some(row) => row as u32,
+        None => 255,
     }
 }
 

@@ -1,14 +1,15 @@
 -- The header's promises are kept. Assumes nothing.
+use Rattle.std.specs.Prelude.{Option, None, Some}
 use mathlib.Core.Path.{◌≡◌, refl, sym, ap, ◌∙◌}
 use mathlib.Core.Bool.{Bool, true, false, not}
 use mathlib.Core.List.{List, [], ◌∷◌, ◌++◌}
 use mathlib.Core.Logic.{◌↔◌, inl, inr, ⊎_elim}
-use mathlib.Core.Option.{Option, none, some as found, some-ne-none, none-ne-some}
 use Prim.Native.Nat.{ℕ, zero, suc, ◌+◌, ◌*◌, ◌/◌, ◌%◌, ◌<◌}
 use native.Mathlib.Omega.{arith}
 use lib.Dec.{eqb, ltb, lit≤}
 use lib.IntN.{ℤ, pos, negsuc}
 use lib.ListN.{length, get_or}
+use Rattle.bits.proofs.OptionLaws.{Some-ne-None, None-ne-Some}
 use mir.Syntax.{w32}
 use mir.Val.{SFits}
 use borrow.Author.Tests.{eqb-true, ltb-true, not-true, not-false}
@@ -92,14 +93,14 @@ module _ (u : Unread) (h : Early u.finding) where
   not_small : unread_code u < 256 → ⊥
   not_small e = omega (arith, h.register, e)
 
-line_zero : (o : Outcome Unread (Option Line)) → ((u : Unread) → o ≡ refuses u → Early u.finding) → (line_code o ≡ 0) ↔ ((l : Line) × (o ≡ gives (found l)))
-line_zero (gives (found l)) h = (λ e. (l, refl), λ g. refl)
-line_zero (gives none) h = (λ e. absurd (omega (arith, e)), λ g. absurd (none-ne-some g.0 (cc g.1)))
+line_zero : (o : Outcome Unread (Option Line)) → ((u : Unread) → o ≡ refuses u → Early u.finding) → (line_code o ≡ 0) ↔ ((l : Line) × (o ≡ gives (Some l)))
+line_zero (gives (Some l)) h = (λ e. (l, refl), λ g. refl)
+line_zero (gives None) h = (λ e. absurd (omega (arith, e)), λ g. absurd (None-ne-Some g.0 (cc g.1)))
 line_zero (refuses u) h = (λ e. absurd (not_small u (h u refl) (omega (arith, e))), λ g. never g.1)
 
-line_fewer : (o : Outcome Unread (Option Line)) → ((u : Unread) → o ≡ refuses u → Early u.finding) → (line_code o ≡ 255) ↔ (o ≡ gives none)
-line_fewer (gives (found l)) h = (λ e. absurd (omega (arith, e)), λ g. absurd (some-ne-none l (cc g)))
-line_fewer (gives none) h = (λ e. refl, λ g. refl)
+line_fewer : (o : Outcome Unread (Option Line)) → ((u : Unread) → o ≡ refuses u → Early u.finding) → (line_code o ≡ 255) ↔ (o ≡ gives None)
+line_fewer (gives (Some l)) h = (λ e. absurd (omega (arith, e)), λ g. absurd (Some-ne-None l (cc g)))
+line_fewer (gives None) h = (λ e. refl, λ g. refl)
 line_fewer (refuses u) h = (λ e. absurd (not_small u (h u refl) (omega (arith, e))), λ g. never g)
 
 list_zero : (o : Outcome Unread ℕ) → ((u : Unread) → o ≡ refuses u → Early u.finding) → (list_code o % 256 ≡ 0) ↔ ((n : ℕ) × (o ≡ gives n))
@@ -125,11 +126,11 @@ zero_means_done =
 pub no_row_means_none : NoRowMeansNone
 no_row_means_none opcode k = go (row_with opcode k) refl
   where
-    go : (x : Option ℕ) → row_with opcode k ≡ x → (row_code x ≡ 255) ↔ (x ≡ none)
-    go (found i) e =
+    go : (x : Option ℕ) → row_with opcode k ≡ x → (row_code x ≡ 255) ↔ (x ≡ None)
+    go (Some i) e =
         let l : i < row_count = (indexes.has_it opcode k i e).0 in
-        (λ q. absurd (omega (arith, l, q)), λ q. absurd (some-ne-none i q))
-    go none e = (λ q. refl, λ q. refl)
+        (λ q. absurd (omega (arith, l, q)), λ q. absurd (Some-ne-None i q))
+    go None e = (λ q. refl, λ q. refl)
 
 -- so demand 3 holds of a check that answers 0 where it accepts
 pub demanded : (s : List ℕ) → ((k : ℕ) → get_or s k 0 < 256) → {r : ℕ} → r ≡ verdict_code (verdict_of s) → Demand3At s (r ≡ 0)

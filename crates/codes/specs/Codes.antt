@@ -1,6 +1,5 @@
 -- Answers as single numbers.
-use Rattle.std.specs.Prelude.{List, ℕ, ◌+◌, ◌*◌, ◌^◌}
-use Rattle.std.proofs.Math.Option.{Option, none, some}
+use Rattle.std.specs.Prelude.{List, ℕ, ◌+◌, ◌*◌, ◌^◌, Option, None, Some}
 use Rattle.bits.specs.Outcomes.{Outcome, gives, refuses}
 use Rattle.record.specs.declared.answer.Refusal.{Refusal}
 use Rattle.safety.specs.declared.verdict.Reported.{Reported}
@@ -44,8 +43,8 @@ infer_code (refuses f) = packed f
 
 -- a row, or 255 where there is none
 abbrev pub row_code : Option ℕ → ℕ
-row_code (some row) = row
-row_code none = 255
+row_code (Some row) = row
+row_code None = 255
 
 -- a container that cannot be compared: the finding, and 2^48 for the first of the two, 2^49 for the second
 abbrev pub side_number : Side → ℕ
@@ -57,14 +56,14 @@ unread_code u = packed u.finding + 2 ^ 48 * side_number u.side
 
 -- 0 where a line is given, 255 where the list has fewer, or which container cannot be compared
 abbrev pub line_code : Outcome Unread (Option Line) → ℕ
-line_code (gives (some l)) = 0
-line_code (gives none) = 255
+line_code (gives (Some l)) = 0
+line_code (gives None) = 255
 line_code (refuses u) = unread_code u
 
 -- the three numbers of a line afterwards: those of the line that is given, else what they were
 abbrev pub line_after : Outcome Unread (Option Line) → List ℕ → List ℕ
-line_after (gives (some l)) old = line_numbers l
-line_after (gives none) old = old
+line_after (gives (Some l)) old = line_numbers l
+line_after (gives None) old = old
 line_after (refuses _) old = old
 
 -- the number of lines at bit 16, with number 0, or which container cannot be compared

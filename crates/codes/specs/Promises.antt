@@ -1,7 +1,6 @@
 -- What the header include/vsp.h promises of several calls together. Where a call gives an instruction i, the form it leaves is form_of i;
 -- where a form is written, the buffer is then word_after. Bytes are numbers below 256.
-use Rattle.std.specs.Prelude.{◌≡◌, true, List, ◌∷◌, ◌++◌, ◌↔◌, ℕ, ◌%◌, ◌^◌, ◌<◌, ◌≤◌, length, get_or, take, drop}
-use Rattle.std.proofs.Math.Option.{none, some}
+use Rattle.std.specs.Prelude.{◌≡◌, true, List, ◌∷◌, ◌++◌, ◌↔◌, ℕ, ◌%◌, ◌^◌, ◌<◌, ◌≤◌, length, get_or, take, drop, None, Some}
 use Rattle.bits.specs.Halves.{both}
 use Rattle.bits.specs.declared.halves.Halves.{Halves}
 use Rattle.bits.specs.Outcomes.{Outcome, gives, passes}
@@ -41,17 +40,17 @@ pub record ZeroMeansDone : Type 0 where
   pub of_infer : (v : ℕ) (words : List ℕ) (entry : Halves) (buffer : List ℕ)
       → (infer_code (infer_outcome v words entry buffer) % 2 ^ 8 ≡ 0) ↔ ((k : ℕ) × (infer_outcome v words entry buffer ≡ gives k))
   -- vsp_diff_line: "Gives 0 and the line's three numbers"
-  pub of_diff_line : (a b : List ℕ) (k : ℕ) → (line_code (line_outcome a b k) ≡ 0) ↔ ((l : Line) × (line_outcome a b k ≡ gives (some l)))
+  pub of_diff_line : (a b : List ℕ) (k : ℕ) → (line_code (line_outcome a b k) ≡ 0) ↔ ((l : Line) × (line_outcome a b k ≡ gives (Some l)))
   -- vsp_diff_lines: "so that the number is 0". The number is the code's lowest byte.
   pub of_diff_lines : (a b : List ℕ) → (list_code (list_outcome a b) % 2 ^ 8 ≡ 0) ↔ ((n : ℕ) × (list_outcome a b ≡ gives n))
 
 -- vsp_diff_line: "VSP_FEWER where the list has no line k": 255 is the number of no refusal
 abbrev pub FewerMeansNone : Type 0
-FewerMeansNone = (a b : List ℕ) (k : ℕ) → (line_code (line_outcome a b k) ≡ 255) ↔ (line_outcome a b k ≡ gives none)
+FewerMeansNone = (a b : List ℕ) (k : ℕ) → (line_code (line_outcome a b k) ≡ 255) ↔ (line_outcome a b k ≡ gives None)
 
 -- vsp_row_of: "or VSP_NO_ROW where there is none": 255 is the number of no row
 abbrev pub NoRowMeansNone : Type 0
-NoRowMeansNone = (opcode k : ℕ) → (row_code (row_with opcode k) ≡ 255) ↔ (row_with opcode k ≡ none)
+NoRowMeansNone = (opcode k : ℕ) → (row_code (row_with opcode k) ≡ 255) ↔ (row_with opcode k ≡ None)
 
 -- vsp_read: "Writing the form gives the same word again." Whatever the buffer of 8 bytes held, it then holds the bytes that were read.
 abbrev pub ReadThenWritten : Type 0

@@ -1,4 +1,5 @@
 -- Laws of opening: what an opened container has, its parts, and the order of the tests. Assumes nothing.
+use Rattle.std.specs.Prelude.{Err, Ok, Result}
 use mathlib.Core.Path.{◌≡◌, refl, sym, ap, ap₂, ◌∙◌, subst}
 use mathlib.Core.Bool.{Bool, true, false, ◌&&◌}
 use mathlib.Core.List.{List, [], ◌∷◌}
@@ -13,10 +14,10 @@ use denote.Ref.{Bor}
 use Rattle.bits.specs.Bytes.{little}
 use Rattle.bits.specs.Outcomes.{Outcome, gives, refuses, require, ◌then◌}
 use Rattle.bits.proofs.OutcomeLaws.{then_gives, required}
+use Rattle.reasons.specs.declared.Reason.{Reason}
+use Rattle.reasons.specs.Numbers.{number_of}
 use Rattle.container.specs.declared.format.Format.{Format}
 use Rattle.container.specs.declared.header.Header.{Header}
-use Rattle.container.specs.declared.header.Opening.{Opening}
-use Rattle.container.specs.declared.header.Opening.TheVariants.{Opened, Refused}
 use Rattle.container.specs.Formats.{known, format_of, header_length, word_length, annotation_length, most_of, shortest_header, most_instructions, container_length}
 use Rattle.container.specs.Container.{part, number, marked, version_of, zero_of, count_of, entry_of, words_of, annotations_of, annotations_start}
 use Rattle.container.specs.Opening.{Rejection, unplaced, header_of, opening_outcome, open_outcome, Opens, InPlace, WordsIn, AnnotationsIn, Words, Annotations}
@@ -144,11 +145,11 @@ module _ (s r : Bor (List ℕ)) (a : Annotations s r) where
       let p : InPlace s r 0 0 = subst (λ (x : Outcome Rejection Header). AnnotationsIn x s r) o a in p.contents
 
 -- what opening found, from its answer
-module _ {a : Opening} {x : Outcome Rejection Header} (e : opening_outcome a ≡ x) where
-  pub opened_by : {h : Header} → a ≡ Opened h → x ≡ gives h
+module _ {a : (Result Header Reason)} {x : Outcome Rejection Header} (e : opening_outcome a ≡ x) where
+  pub opened_by : {h : Header} → a ≡ Ok h → x ≡ gives h
   opened_by q = sym e ∙ ap opening_outcome q
 
-  pub refused_by : {n : ℕ} → a ≡ Refused n → x ≡ refuses (unplaced n)
+  pub refused_by : {r : Reason} → a ≡ Err r → x ≡ refuses (unplaced (number_of r))
   refused_by q = sym e ∙ ap opening_outcome q
 
 -- the order of the tests

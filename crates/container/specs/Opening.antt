@@ -1,10 +1,10 @@
 -- Opening a container: its header, or the first refusal, and the part of the lent bytes that the annotations are.
-use Rattle.std.specs.Prelude.{◌≡◌, ◌&&◌, List, ℕ, ◌+◌, ◌*◌, leb, eqb, length}
+use Rattle.std.specs.Prelude.{◌≡◌, ◌&&◌, List, ℕ, ◌+◌, ◌*◌, leb, eqb, length, Err, Ok, Result}
+use Rattle.reasons.specs.declared.Reason.{Reason}
+use Rattle.reasons.specs.Numbers.{number_of}
 use Rattle.std.specs.Borrow.{Bor}
 use Rattle.bits.specs.Outcomes.{Outcome, gives, refuses, require, ◌then◌}
 use Rattle.container.specs.declared.header.Header.{Header}
-use Rattle.container.specs.declared.header.Opening.{Opening}
-use Rattle.container.specs.declared.header.Opening.TheVariants.{Opened, Refused}
 use Rattle.container.specs.Formats.{known, header_length, word_length, annotation_length, most_of, shortest_header, container_length}
 use Rattle.container.specs.Container.{part, marked, version_of, zero_of, count_of, entry_of, annotations_start}
 
@@ -18,9 +18,9 @@ abbrev pub unplaced : ℕ → Rejection
 unplaced n = record { number = n; place = 0 }
 
 -- the outcome that each answer of opening stands for: a header, or the paper's number with place 0
-abbrev pub opening_outcome : Opening → Outcome Rejection Header
-opening_outcome (Opened h) = gives h
-opening_outcome (Refused n) = refuses (unplaced n)
+abbrev pub opening_outcome : Result Header Reason → Outcome Rejection Header
+opening_outcome (Ok h) = gives h
+opening_outcome (Err r) = refuses (unplaced (number_of r))
 
 -- what opening gives: the version, n and the entry set
 abbrev pub header_of : List ℕ → Header

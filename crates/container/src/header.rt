@@ -8,6 +8,7 @@ use crate::format::{container_length, format_of, known};
 use crate::layout::SHORTEST_HEADER;
 use bits::bytes::{load64, wide};
 use bits::halves::Halves;
+use reasons::Reason;
 
 // Where the entry set begins.
 const ENTRY: usize = 8;
@@ -15,32 +16,12 @@ const ENTRY: usize = 8;
 // The fewest instructions of a container.
 const FEWEST: usize = 1;
 
-// The numbers of the refusals, by reason.
-const TOO_SHORT: u8 = 12;
-
-const WRONG_MARK: u8 = 10;
-
-const WRONG_VERSION: u8 = 11;
-
-const WRONG_ZERO: u8 = 13;
-
-const WRONG_COUNT: u8 = 12;
-
-const WRONG_LENGTH: u8 = 12;
-
 // The version, how many instructions there are, and the entry set: the halves of registers that are defined before the first.
 #[derive(Clone, Copy)]
 pub struct Header {
     pub version: u64,
     pub count: usize,
     pub entry: Halves,
-}
-
-// What opening finds: the header, or the number of a refusal.
-#[derive(Clone, Copy)]
-pub enum Opening {
-    Opened(Header),
-    Refused(u8),
 }
 
 // A 16-bit number, the low byte first.
@@ -80,35 +61,35 @@ pub fn halves_in(bytes: &[u8], start: usize, high: usize) -> Halves
 }
 
 // Opens a container. No word is looked at.
-pub fn open(bytes: &[u8]) -> Opening
+pub fn open(bytes: &[u8]) -> Result<Header, Reason>
     ensures { opening_outcome result ≡ open_outcome bytes.now }
 {
     if bytes.len() < SHORTEST_HEADER {
-        return Opening::Refused(TOO_SHORT);
+        return Err(Reason::WrongLength);
     }
     if !has_mark(bytes) {
-        return Opening::Refused(WRONG_MARK);
+        return Err(Reason::WrongMark);
     }
     let version = version_in(bytes);
     if !known(version) {
-        return Opening::Refused(WRONG_VERSION);
+        return Err(Reason::WrongVersion);
     }
     if bytes[5] != 0 {
-        return Opening::Refused(WRONG_ZERO);
+        return Err(Reason::NotZero);
     }
     let count = number16(bytes[6], bytes[7]) as usize;
     if count < FEWEST {
-        return Opening::Refused(WRONG_COUNT);
+        return Err(Reason::WrongLength);
     }
     let f = format_of(version);
     if f.most < count {
-        return Opening::Refused(WRONG_COUNT);
+        return Err(Reason::WrongLength);
     }
     if bytes.len() != container_length(version, count) {
-        return Opening::Refused(WRONG_LENGTH);
+        return Err(Reason::WrongLength);
     }
     let entry = halves_in(bytes, ENTRY, f.high);
-    Opening::Opened(Header {
+    Ok(Header {
         version,
         count,
         entry,

@@ -1,7 +1,7 @@
 ghost use Rattle.container.specs.Opening.{Words, Annotations};
 
 use crate::format::format_of;
-use crate::header::{Opening, open};
+use crate::header::open;
 use crate::layout::WORD_LENGTH;
 
 // The words, as the part of the lent bytes where they stand; an empty part where they do not open.
@@ -9,13 +9,13 @@ pub fn words(bytes: &[u8]) -> &[u8]
     ensures { Words bytes.entry result }
 {
     match open(bytes) {
-        Opening::Opened(header) => {
+        Ok(header) => {
             let f = format_of(header.version);
             let start = f.header;
             let end = start + WORD_LENGTH * header.count;
             return &bytes[start..end];
         }
-        Opening::Refused(_) => {
+        Err(_) => {
             return &bytes[..0];
         }
     }
@@ -26,14 +26,14 @@ pub fn annotations(bytes: &[u8]) -> &[u8]
     ensures { Annotations bytes.entry result }
 {
     match open(bytes) {
-        Opening::Opened(header) => {
+        Ok(header) => {
             let n = header.count;
             let f = format_of(header.version);
             let start = f.header + WORD_LENGTH * n;
             let end = start + f.annotation * n;
             return &bytes[start..end];
         }
-        Opening::Refused(_) => {
+        Err(_) => {
             return &bytes[..0];
         }
     }

@@ -9,7 +9,7 @@ ghost use Rattle.decode.specs.Served.Decoded.{AllRead, Decoded};
 use container::layout::MOST_INSTRUCTIONS;
 use operations::operand::Operand;
 use operations::{Operation, operation_of};
-use reader::answer::Reading;
+
 use record::instruction::Modifiers;
 use verifier::program::reading_at;
 
@@ -40,8 +40,8 @@ fn operation_at<'a>(words: &'a [u8], uniforms: &'a [u32], n: usize, i: usize) ->
 {
     let r = reading_at(words, n, i);
     match r {
-        Reading::Read(x) => operation_of(uniforms, n, i, x),
-        Reading::Refused(_) => nothing(),
+        Ok(x) => operation_of(uniforms, n, i, x),
+        Err(_) => nothing(),
     }
 }
 

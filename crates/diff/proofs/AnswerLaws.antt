@@ -1,7 +1,7 @@
 -- The answers of a comparison by whether both containers open and read. Assumes nothing.
+use Rattle.std.specs.Prelude.{Option, Some}
 use mathlib.Core.Path.{◌≡◌, refl, sym, ap, ap₂, ◌∙◌, subst}
 use mathlib.Core.List.{List, [], ◌∷◌, ◌++◌}
-use mathlib.Core.Option.{Option, some}
 use Prim.Native.Nat.{ℕ, suc, ◌-◌, ◌<◌, ◌≤◌}
 use native.Mathlib.Omega.{arith}
 use lib.ListN.{length}
@@ -35,7 +35,7 @@ unfolding differences
 after_version a b e = ap (λ (l : List Line). l ++ content_lines a b) e
 
 module _ (a b : List ℕ) {l : Line} (e : l ∷ [] ≡ version_lines a b) (k : ℕ) where
-  pub version_first : k ≡ 0 → kth (differences a b) k ≡ some l
+  pub version_first : k ≡ 0 → kth (differences a b) k ≡ Some l
   unfolding kth
   version_first h = rw (← after_version a b e, h)
 
@@ -102,10 +102,10 @@ module _ (a b : List ℕ) where
     list_untold out = (untold, ap (λ (o : Outcome Unread ℕ). kept_or o (front_filled (differences a b) out) out) untold)
 
   -- a line that is told has the index of an instruction
-  pub line_index : (k : ℕ) {l : Line} → line_outcome a b k ≡ gives (some l) → l.index < most_instructions
+  pub line_index : (k : ℕ) {l : Line} → line_outcome a b k ≡ gives (Some l) → l.index < most_instructions
   unfolding line_outcome
   line_index k {l} e =
-      let t = then_gives (both_read a b) (gives (kth (differences a b) k)) (some l) e in
+      let t = then_gives (both_read a b) (gives (kth (differences a b) k)) (Some l) e in
       small_index a b (are_both (sym t.0)) (kth_member (differences a b) k (given t.1))
     where
       given : {x y : Option Line} → ◌≡◌ {A = Outcome Unread (Option Line)} (gives x) (gives y) → x ≡ y

@@ -24,8 +24,8 @@ pub fn both_read<'a>(first: &'a [u8], second: &'a [u8]) -> Ready
 {
     let v = read_all(first);
     match v {
-        Verdict::Accepted => {}
-        Verdict::Refused(finding) => {
+        Ok(()) => {}
+        Err(finding) => {
             return Ready::Unread(Unread {
                 side: Side::First,
                 finding,
@@ -34,8 +34,8 @@ pub fn both_read<'a>(first: &'a [u8], second: &'a [u8]) -> Ready
     }
     let w = read_all(second);
     match w {
-        Verdict::Accepted => Ready::Both,
-        Verdict::Refused(finding) => Ready::Unread(Unread {
+        Ok(()) => Ready::Both,
+        Err(finding) => Ready::Unread(Unread {
             side: Side::Second,
             finding,
         }),

@@ -1,8 +1,8 @@
 -- How an input is parted, and how the lines are sent in turn. Assumes nothing.
+use Rattle.std.specs.Prelude.{Some}
 use mathlib.Core.Path.{◌≡◌, refl, sym, ap, ap₂, ◌∙◌}
 use mathlib.Core.Bool.{Bool, true, false}
 use mathlib.Core.List.{List, [], ◌∷◌}
-use mathlib.Core.Option.{some}
 use Prim.Native.Nat.{ℕ, zero, suc, ◌+◌, ◌-◌, ◌<◌, ◌≤◌, min}
 use native.Mathlib.Omega.{arith}
 use borrow.Author.Tests.{ltb-true, ltb-false}
@@ -82,7 +82,7 @@ module _ {input : Input} {s first second : List ℕ} (p : Parted input s first s
   same_lines : differences first second ≡ listed s
   same_lines = ap₂ differences p.front p.rest
 
-  pub line_in : (k : ℕ) {l : Line} → kth (differences first second) k ≡ some l → kth (listed s) k ≡ some l
+  pub line_in : (k : ℕ) {l : Line} → kth (differences first second) k ≡ Some l → kth (listed s) k ≡ Some l
   line_in k e = ap (λ (ls : List Line). kth ls k) (sym same_lines) ∙ e
 
   pub count_in : {k : ℕ} → k ≡ length (differences first second) → k ≡ length (listed s)
@@ -100,7 +100,7 @@ module _ (a b : List ℕ) where
   versions_same e = after_version a b e
 
 -- one of the lines from k on, and those after it
-pub at_line : (all : List Line) {rest : List Line} {l : Line} (k : ℕ) → l ∷ rest ≡ drop k all → (kth all k ≡ some l) × (k < length all) × (rest ≡ drop (k + 1) all)
+pub at_line : (all : List Line) {rest : List Line} {l : Line} (k : ℕ) → l ∷ rest ≡ drop k all → (kth all k ≡ Some l) × (k < length all) × (rest ≡ drop (k + 1) all)
 unfolding kth
 at_line [] zero e = absurd (omega (arith, ap length e))
 at_line [] (suc k) e = absurd (omega (arith, ap length e))

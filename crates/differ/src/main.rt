@@ -2,8 +2,7 @@
 // status, so standard error tells which of them does not open or read, and why, or what failed.
 #![tactic(auto)]
 
-ghost use Rattle.std.specs.Prelude.{◌≡◌, ◌+◌, ◌-◌, ◌≤◌, min, length, drop};
-ghost use Rattle.std.proofs.Math.Option.{some};
+ghost use Rattle.std.specs.Prelude.{◌≡◌, ◌+◌, ◌-◌, ◌≤◌, min, length, drop, Some};
 ghost use Rattle.bits.specs.Lists.{kth};
 ghost use Rattle.bits.specs.Outcomes.{refuses};
 ghost use Rattle.differences.specs.Differences.{content_lines, differences};
@@ -50,7 +49,7 @@ fn tell(errors: &impl Print, text: &[u8]) -> bool {
 
 // The one way to standard output: the text of line k of what differs. It is written until all of it is, or until a write fails.
 fn send(output: &impl Print, bytes: &[u8], input: Input, k: usize, line: Line, text: &[u8]) -> bool
-    requires { (input ≡ Bytes (length bytes.now)) × (kth (listed bytes.now) k ≡ some line) × (text.now ≡ line_text line) }
+    requires { (input ≡ Bytes (length bytes.now)) × (kth (listed bytes.now) k ≡ Some line) × (text.now ≡ line_text line) }
 {
     output.write_all(text).is_ok()
 }
@@ -64,7 +63,7 @@ fn all_sent(bytes: &[u8], k: usize) -> bool
 
 // Sends line k.
 fn send_line(output: &impl Print, bytes: &[u8], input: Input, k: usize, line: Line) -> bool
-    requires { (input ≡ Bytes (length bytes.now)) × (kth (listed bytes.now) k ≡ some line) }
+    requires { (input ≡ Bytes (length bytes.now)) × (kth (listed bytes.now) k ≡ Some line) }
 {
     let mut text = [0u8; difftext::LONGEST];
     let n = write_line(line, &mut text);
@@ -170,7 +169,7 @@ fn refuse(errors: &impl Print, bytes: &[u8], input: Input, u: Unread)
 {
     let side = u.side;
     let finding = u.finding;
-    let v = Verdict::Refused(finding);
+    let v = Err(finding);
     let mut line = [0u8; LONGEST_VERDICT];
     let n = write_verdict(v, &mut line);
     match side {

@@ -1,8 +1,8 @@
 -- The comparison is what the paper asks. Assumes nothing.
+use Rattle.std.specs.Prelude.{Option, None, Some}
 use mathlib.Core.Path.{◌≡◌, refl, sym, ap, ◌∙◌}
 use mathlib.Core.List.{List}
 use mathlib.Core.Logic.{◌↔◌, ◌≢◌, ⊎_elim}
-use mathlib.Core.Option.{Option, none, some}
 use Prim.Native.Nat.{ℕ}
 use borrow.Author.Tests.{ne_eqb}
 use lib.Dec.{T}
@@ -52,7 +52,7 @@ module _ (a b : List ℕ) where
   passed_on k u e = of_words (side_of a b u.side) u.finding (as_checked a b u (⊎_elim (λ q. q) (λ q. never (sym q)) (then_refuses (both_read a b) (gives (kth (differences a b) k)) u e)))
 
   -- the first line where the versions differ
-  first_line : version_of a ≢ version_of b → kth (differences a b) 0 ≡ some (line Version 0 (version_of a) (version_of b))
+  first_line : version_of a ≢ version_of b → kth (differences a b) 0 ≡ Some (line Version 0 (version_of a) (version_of b))
   unfolding kth differences
   first_line n = rw (ne_eqb (version_of a) (version_of b) n)
 
@@ -70,15 +70,15 @@ module _ (a b : List ℕ) where
     at_line : (k : ℕ) {o : Option Line} → kth (differences a b) k ≡ o → line_outcome a b k ≡ gives o
     at_line k e = answered k ∙ ap gives e
 
-    nothing_listed : T (are_bytes a) → T (are_bytes b) → (line_outcome a b 0 ≡ gives none) ↔ (a ≡ b)
+    nothing_listed : T (are_bytes a) → T (are_bytes b) → (line_outcome a b 0 ≡ gives None) ↔ (a ≡ b)
     nothing_listed t u = (
       λ e. same_bytes a b t u f g (λ l d. no_member (differences a b) (line_at 0 e) (differs_listed a b d)),
       λ e. at_line 0 (go (kth (differences a b) 0) refl e),
     )
       where
-        go : (o : Option Line) → kth (differences a b) 0 ≡ o → a ≡ b → kth (differences a b) 0 ≡ none
-        go none q e = q
-        go (some l) q e = absurd (no_self b (rw e at (listed_differs a b (kth_member (differences a b) 0 q))))
+        go : (o : Option Line) → kth (differences a b) 0 ≡ o → a ≡ b → kth (differences a b) 0 ≡ None
+        go None q e = q
+        go (Some l) q e = absurd (no_self b (rw e at (listed_differs a b (kth_member (differences a b) 0 q))))
 
 pub compares : Compares line_outcome
 compares a b t u = record {

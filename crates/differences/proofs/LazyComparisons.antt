@@ -1,9 +1,9 @@
 -- What is asked of a comparison is met by no lazy one: not by one that never lists anything, nor by one that lists every field. Each fails at
 -- containers that are written out here. Assumes nothing.
+use Rattle.std.specs.Prelude.{Option, None, Some}
 use mathlib.Core.Path.{◌≡◌, refl, sym, ◌∙◌}
 use mathlib.Core.List.{List, [], ◌∷◌, ◌++◌, Memᴰ}
 use mathlib.Core.Logic.{◌≢◌}
-use mathlib.Core.Option.{Option, none, some}
 use Prim.Native.Nat.{ℕ}
 use native.Mathlib.Omega.{arith}
 use lib.Dec.{T}
@@ -86,7 +86,7 @@ not_silent c asked lazy =
     let p = (asked empty full empty_bytes full_bytes).all_lines empty_formed full_formed l (at_entry 0 one_set entries_differ) in
     lazy empty full p.0 l p.1
 
-no_line : {l : Line} → ◌≡◌ {A = Outcome Unread (Option Line)} (gives none) (gives (some l)) → ⊥
+no_line : {l : Line} → ◌≡◌ {A = Outcome Unread (Option Line)} (gives None) (gives (Some l)) → ⊥
 no_line e = let z : ◌≡◌ {A = ℕ} 0 1 = cc in omega arith
 
 pub not_everything : (c : Comparison) → Compares c → ListsEveryField c → ⊥

@@ -1,33 +1,34 @@
 -- Lists: the k-th and membership, lists in order, and the lines of some indexes or sets. Assumes nothing.
+use Rattle.std.specs.Prelude.{None, Some}
 use mathlib.Core.Path.{◌≡◌, refl, sym, ap, subst}
 use mathlib.Core.List.Memᴰ
 use mathlib.Core.List.{List, [], ◌∷◌, ◌++◌, Memᴰ}
 use mathlib.Core.Logic.{⊎_elim}
-use mathlib.Core.Option.{none, some, some-injective, none-ne-some, some-ne-none}
 use Prim.Native.Nat.{ℕ, zero, suc, ◌+◌, ◌<◌, ◌≤◌}
 use native.Mathlib.Nat.{eq-or-lt_of_le, le_of_suc-le-suc, not-suc-le-zero}
 use native.Mathlib.Omega.{arith}
+use Rattle.bits.proofs.OptionLaws.{Some-injective, None-ne-Some, Some-ne-None}
 use Rattle.bits.specs.Lists.{kth}
 use Rattle.differences.specs.declared.line.Line.{Line}
 use Rattle.differences.specs.Differences.{lines_from, lines_of}
 
 -- what is the k-th is a member, and a member is the k-th for some k
-pub kth_member : {A : Type 0} (xs : List A) (k : ℕ) {x : A} → kth xs k ≡ some x → Memᴰ x xs
+pub kth_member : {A : Type 0} (xs : List A) (k : ℕ) {x : A} → kth xs k ≡ Some x → Memᴰ x xs
 unfolding kth
-kth_member [] k e = absurd (none-ne-some _ e)
-kth_member (y ∷ xs) zero e = Memᴰ.head (sym (some-injective _ _ e))
+kth_member [] k e = absurd (None-ne-Some _ e)
+kth_member (y ∷ xs) zero e = Memᴰ.head (sym (Some-injective _ _ e))
 kth_member (y ∷ xs) (suc k) e = Memᴰ.tail (kth_member xs k e)
 
-pub member_kth : {A : Type 0} {x : A} {xs : List A} → Memᴰ x xs → (k : ℕ) × (kth xs k ≡ some x)
+pub member_kth : {A : Type 0} {x : A} {xs : List A} → Memᴰ x xs → (k : ℕ) × (kth xs k ≡ Some x)
 unfolding kth
-member_kth (Memᴰ.head e) = (0, ap some (sym e))
+member_kth (Memᴰ.head e) = (0, ap Some (sym e))
 member_kth (Memᴰ.tail m) = let r = member_kth m in (suc r.0, r.1)
 
 -- a list that has no first has no member
-pub no_member : {A : Type 0} (xs : List A) → kth xs 0 ≡ none → {x : A} → ¬ Memᴰ x xs
+pub no_member : {A : Type 0} (xs : List A) → kth xs 0 ≡ None → {x : A} → ¬ Memᴰ x xs
 unfolding kth
 no_member [] e m = Memᴰ.not-nil m
-no_member (y ∷ xs) e m = some-ne-none y e
+no_member (y ∷ xs) e m = Some-ne-None y e
 
 module _ {A : Type 0} (R : A → A → Type 0) where
   -- each stands in R to all that come after it
@@ -42,11 +43,11 @@ module _ {A : Type 0} (R : A → A → Type 0) where
     ordered_append xs ys o.1 p (λ z y m q. h z y (Memᴰ.tail m) q),
   )
 
-  pub ordered_kth : (xs : List A) → Ordered xs → (j k : ℕ) {x y : A} → j < k → kth xs j ≡ some x → kth xs k ≡ some y → R x y
+  pub ordered_kth : (xs : List A) → Ordered xs → (j k : ℕ) {x y : A} → j < k → kth xs j ≡ Some x → kth xs k ≡ Some y → R x y
   unfolding kth
-  ordered_kth [] o j k h d e = absurd (none-ne-some _ d)
+  ordered_kth [] o j k h d e = absurd (None-ne-Some _ d)
   ordered_kth (z ∷ xs) o j zero h d e = absurd (not-suc-le-zero h)
-  ordered_kth (z ∷ xs) o zero (suc k) {x} {y} h d e = rw (← some-injective z x d) (o.0 y (kth_member xs k e))
+  ordered_kth (z ∷ xs) o zero (suc k) {x} {y} h d e = rw (← Some-injective z x d) (o.0 y (kth_member xs k e))
   ordered_kth (z ∷ xs) o (suc j) (suc k) h d e = ordered_kth xs o.1 j k (le_of_suc-le-suc h) d e
 
 -- the lines of n indexes from i up

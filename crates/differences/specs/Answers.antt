@@ -1,6 +1,5 @@
 -- What a comparison answers (02, Item 4).
-use Rattle.std.specs.Prelude.{List, ℕ, length}
-use Rattle.std.proofs.Math.Option.{Option, none, some}
+use Rattle.std.specs.Prelude.{List, ℕ, length, Option, None, Some}
 use Rattle.bits.specs.Lists.{kth}
 use Rattle.bits.specs.Outcomes.{Outcome, gives, refuses, passes, ◌then◌, kept_or}
 use Rattle.safety.specs.Verdict.{Judgement, all_read}
@@ -19,8 +18,8 @@ use Rattle.differences.specs.Numbers.{front_filled}
 
 -- the outcome that each answer stands for: the line asked for, or none where the list has fewer; or which one cannot be compared
 abbrev pub compared_outcome : Compared → Outcome Unread (Option Line)
-compared_outcome (a_line l) = gives (some l)
-compared_outcome Fewer = gives none
+compared_outcome (a_line l) = gives (Some l)
+compared_outcome Fewer = gives None
 compared_outcome (unread_one u) = refuses u
 
 abbrev pub listed_outcome : Listed → Outcome Unread ℕ

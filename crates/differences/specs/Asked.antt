@@ -1,7 +1,6 @@
 -- What paper 02, Items 4 and 7, asks of a comparison, said of any that answers for two containers and k.
-use Rattle.std.specs.Prelude.{◌≡◌, ◌↔◌, ◌≢◌, ℕ, ◌+◌, ◌<◌, ◌≤◌, T, get_or}
+use Rattle.std.specs.Prelude.{◌≡◌, ◌↔◌, ◌≢◌, ℕ, ◌+◌, ◌<◌, ◌≤◌, T, get_or, Option, None, Some}
 use mathlib.Core.List.{List, Memᴰ}
-use Rattle.std.proofs.Math.Option.{Option, none, some}
 use Rattle.std.proofs.Math.Pow.{are_bytes}
 use Rattle.bits.specs.Outcomes.{Outcome, gives, refuses, passes}
 use Rattle.container.specs.Container.{version_of, count_of, entry_of, words_of}
@@ -89,19 +88,19 @@ pub record AsAsked (a b : List ℕ) (answer : ℕ → Outcome Unread (Option Lin
   -- where both do, a line is told, or that there are fewer,
   pub told : WellFormed a → WellFormed b → (k : ℕ) → (o : Option Line) × (answer k ≡ gives o)
   -- each line tells what differs,
-  pub true_lines : WellFormed a → WellFormed b → (k : ℕ) (l : Line) → answer k ≡ gives (some l) → Differs a b l
+  pub true_lines : WellFormed a → WellFormed b → (k : ℕ) (l : Line) → answer k ≡ gives (Some l) → Differs a b l
   -- whatever differs has its line,
-  pub all_lines : WellFormed a → WellFormed b → (l : Line) → Differs a b l → (k : ℕ) × (answer k ≡ gives (some l))
+  pub all_lines : WellFormed a → WellFormed b → (l : Line) → Differs a b l → (k : ℕ) × (answer k ≡ gives (Some l))
   -- the versions come first where they differ (02, Item 7),
   pub versions_first : WellFormed a → WellFormed b → version_of a ≢ version_of b
-      → answer 0 ≡ gives (some (line Version 0 (version_of a) (version_of b)))
+      → answer 0 ≡ gives (Some (line Version 0 (version_of a) (version_of b)))
   -- the lines stand in order, so that none stands there twice,
-  pub in_order : WellFormed a → WellFormed b → (j k : ℕ) (l m : Line) → j < k → answer j ≡ gives (some l) → answer k ≡ gives (some m)
+  pub in_order : WellFormed a → WellFormed b → (j k : ℕ) (l m : Line) → j < k → answer j ≡ gives (Some l) → answer k ≡ gives (Some m)
       → Before l m
   -- they are numbered from 0 without a gap,
-  pub no_gap : WellFormed a → WellFormed b → (j k : ℕ) → j ≤ k → answer j ≡ gives none → answer k ≡ gives none
+  pub no_gap : WellFormed a → WellFormed b → (j k : ℕ) → j ≤ k → answer j ≡ gives None → answer k ≡ gives None
   -- and nothing is listed exactly when the bytes are equal
-  pub equal : WellFormed a → WellFormed b → (answer 0 ≡ gives none) ↔ (a ≡ b)
+  pub equal : WellFormed a → WellFormed b → (answer 0 ≡ gives None) ↔ (a ≡ b)
 
 -- a comparison: what it answers for two containers and k
 abbrev pub Comparison : Type 0

@@ -1,6 +1,5 @@
 -- Lazy comparisons that Item 4 of paper 02 must exclude.
-use Rattle.std.specs.Prelude.{◌≡◌, List, ℕ, ◌<◌, get_or}
-use Rattle.std.proofs.Math.Option.{some}
+use Rattle.std.specs.Prelude.{◌≡◌, List, ℕ, ◌<◌, get_or, Some}
 use Rattle.bits.specs.Outcomes.{gives}
 use Rattle.safety.specs.Program.{WellFormed}
 use Rattle.differences.specs.declared.line.What.TheVariants.{Row}
@@ -11,7 +10,7 @@ use Rattle.differences.specs.Asked.{Comparison}
 
 -- one that never lists anything
 abbrev pub NeverLists : Comparison → Type 0
-NeverLists c = (a b : List ℕ) (k : ℕ) (l : Line) → ¬ (c a b k ≡ gives (some l))
+NeverLists c = (a b : List ℕ) (k : ℕ) (l : Line) → ¬ (c a b k ≡ gives (Some l))
 
 -- a line for field j of instruction i
 abbrev pub IsOf : Line → ℕ → ℕ → Type 0
@@ -21,4 +20,4 @@ IsOf l i j = (l.index ≡ i) × (l.what ≡ get_or fields j Row)
 abbrev pub ListsEveryField : Comparison → Type 0
 ListsEveryField c =
     (a b : List ℕ) → WellFormed a → WellFormed b → (i j : ℕ) → i < shared a b → j < field_count
-    → (k : ℕ) × (l : Line) × ((c a b k ≡ gives (some l)) × IsOf l i j)
+    → (k : ℕ) × (l : Line) × ((c a b k ≡ gives (Some l)) × IsOf l i j)

@@ -5,7 +5,7 @@ ghost use Rattle.safety.specs.Program.{instruction_in};
 ghost use Rattle.differences.specs.Records.{at_bit_8, contents};
 
 use differences::line::FIELDS;
-use reader::answer::Reading;
+
 use reader::read_number;
 use record::instruction::Instruction;
 use record::offset::offset_number;
@@ -57,10 +57,10 @@ pub fn take_contents(w: u64, out: &mut [u64; FIELDS])
     ensures { out.new ≡ contents (instruction_in (read_number w)) }
 {
     match read_number(w) {
-        Reading::Read(i) => {
+        Ok(i) => {
             *out = contents(i);
         }
-        Reading::Refused(_) => {
+        Err(_) => {
             *out = [0; FIELDS];
         }
     }

@@ -107,7 +107,7 @@ fn judge_successors(
     ensures { verdict_outcome result ≡ each (judge_successor n (annotation_at version annotations.now) i (after version x before)) (successors x i) }
 {
     if x.ends() {
-        return Verdict::Accepted;
+        return Ok(());
     }
     let held = after(version, x, kills, before);
     let next = judge_successor(version, annotations, n, i, held, i + 1);
@@ -115,11 +115,11 @@ fn judge_successors(
         return next;
     }
     match next {
-        Verdict::Accepted => {
+        Ok(()) => {
             let j = branch_target(i, x.offset, n);
             judge_successor(version, annotations, n, i, held, j)
         }
-        Verdict::Refused(f) => Verdict::Refused(f),
+        Err(f) => Err(f),
     }
 }
 
@@ -132,10 +132,10 @@ pub fn judge_flow(version: u64, annotations: &[u8], n: usize, i: usize, x: Instr
     let u = x.uses();
     let missed = none_missing(READ_MISSING, i, both(u.reads), before);
     match missed {
-        Verdict::Accepted => {
+        Ok(()) => {
             let kills = u.kills;
             judge_successors(version, annotations, n, i, x, kills, before)
         }
-        Verdict::Refused(f) => Verdict::Refused(f),
+        Err(f) => Err(f),
     }
 }

@@ -77,7 +77,7 @@ fn sweep_words(
 {
     let v = make_plan(version, words, n, kills, lows, highs, falls, jumps);
     match v {
-        Verdict::Accepted => {
+        Ok(()) => {
             low_notes[0] = entry.low;
             high_notes[0] = entry.high;
             let k = rest(
@@ -86,7 +86,7 @@ fn sweep_words(
             encode(version, low_notes, high_notes, out);
             return Inference::Proposed(k);
         }
-        Verdict::Refused(f) => {
+        Err(f) => {
             return Inference::Refused(f);
         }
     }
@@ -137,11 +137,11 @@ fn hand_over<'a>(
 {
     let v = judge_words(version, words, proposal, n, entry);
     match v {
-        Verdict::Accepted => {
+        Ok(()) => {
             bits::bytes::copy(proposal, annotations);
             return Inference::Proposed(k);
         }
-        Verdict::Refused(_) => {
+        Err(_) => {
             return refuse(NONE_ACCEPTABLE);
         }
     }

@@ -1,7 +1,7 @@
 -- What the tests of a word's line find is what reading the word gives. Assumes nothing.
+use Rattle.std.specs.Prelude.{Ok, Result, None, Some, option_map}
 use mathlib.Core.Path.{◌≡◌, refl, sym, ap, ap₂, ◌∙◌, subst}
 use mathlib.Core.Bool.{Bool, true, false, ◌&&◌, ◌||◌, not}
-use mathlib.Core.Option.{none, some, map, some-injective, none-ne-some, some-ne-none}
 use Prim.Native.Nat.{ℕ, ◌+◌, ◌*◌, ◌/◌, ◌%◌, ◌^◌, ◌<◌, ◌≤◌}
 use native.Mathlib.Nat.{mod-lt, mod-one, mod-eq_of_lt, div-eq_of_lt, zero-mod}
 use native.Mathlib.Omega.{arith}
@@ -9,6 +9,7 @@ use lib.Bits.{bit_and, bit_or, and_shr, and_mod, and_mask}
 use lib.Dec.{T, eqb, ltb, leb, eqb→eq}
 use lib.Pow.{pow_pos}
 use borrow.Author.Tests.{lt-ltb, le-leb, lt-leb, eq-eqb, ne_eqb, ltb-true, ltb-false}
+use Rattle.bits.proofs.OptionLaws.{Some-injective, None-ne-Some, Some-ne-None}
 use Rattle.bits.specs.Fields.{bits, choose, assigned}
 use Rattle.bits.specs.Sets.{has, minus, lowest}
 use Rattle.bits.specs.Outcomes.{Outcome, gives, refuses, require, ◌then◌}
@@ -34,15 +35,13 @@ use Rattle.reading.specs.Reader.{lowest_stray, read_row, read_number}
 use Rattle.judge.specs.Served.Judge.{refused, refusal_of, fit_of, Known, Fitted, Judges, judged_sources}
 use Rattle.judge.specs.Served.Windows.{modifiers_ok, refused_modifier}
 use Rattle.judge.specs.declared.Fit.{Fit}
-use Rattle.judge.specs.declared.Judged.{Judged}
-use Rattle.judge.specs.declared.Judged.TheVariants.{Fits}
 use Rattle.reading.proofs.StrayLaws.{stray_le}
 use Rattle.reading.proofs.FixedLaws.{stray_among, agrees, unstray}
 use Rattle.reading.proofs.WindowLaws.{window_26, lower_26, window_36, lower_36, pair_8, pairs_none, modifiers_so, flow_so, mask_so, window}
 use Rattle.reading.proofs.SourceBytes.{sources_so, low_legal}
 
-abbrev Result : Type 0
-Result = Outcome Refusal Instruction
+abbrev Told : Type 0
+Told = Outcome Refusal Instruction
 
 -- ---- the order of the refusals, by tests
 
@@ -55,7 +54,7 @@ in_order t0 t4 t5 t7 t10 t11 =
     then require t10 (refusal 6 36)
     then require t11 (refusal 6 37)
 
-abbrev pick : (t0 t4 t5 t7 t10 t11 : Bool) → Judged
+abbrev pick : (t0 t4 t5 t7 t10 t11 : Bool) → (Result Fit ℕ)
 pick t0 t4 t5 t7 t10 t11 =
     choose (not t0) (refused 6 8)
     (choose (not t4) (refused 6 26)
@@ -65,7 +64,7 @@ pick t0 t4 t5 t7 t10 t11 =
 abbrev all_ok : (t0 t4 t5 t7 t10 t11 : Bool) → Bool
 all_ok t0 t4 t5 t7 t10 t11 = choose (not (t4 && t5)) false (choose (not (t10 && t11)) false (t0 && t7))
 
-picked : (w : ℕ) (t0 t4 t5 t7 t10 t11 : Bool) (rest : Result) → read_number w ≡ (in_order t0 t4 t5 t7 t10 t11 then rest)
+picked : (w : ℕ) (t0 t4 t5 t7 t10 t11 : Bool) (rest : Told) → read_number w ≡ (in_order t0 t4 t5 t7 t10 t11 then rest)
     → all_ok t0 t4 t5 t7 t10 t11 ≡ false → Judges w (pick t0 t4 t5 t7 t10 t11)
 unfolding in_order ◌then◌
 picked w false t4 t5 t7 t10 t11 rest e h = e
@@ -76,7 +75,7 @@ picked w true true true true false t11 rest e h = e
 picked w true true true true true false rest e h = e
 picked w true true true true true true rest e h = clash h
 
-passed : (t0 t4 t5 t7 t10 t11 : Bool) (rest : Result) → all_ok t0 t4 t5 t7 t10 t11 ≡ true → (in_order t0 t4 t5 t7 t10 t11 then rest) ≡ rest
+passed : (t0 t4 t5 t7 t10 t11 : Bool) (rest : Told) → all_ok t0 t4 t5 t7 t10 t11 ≡ true → (in_order t0 t4 t5 t7 t10 t11 then rest) ≡ rest
 unfolding in_order ◌then◌
 passed t0 false t5 t7 t10 t11 rest h = clash (sym h)
 passed t0 true false t7 t10 t11 rest h = clash (sym h)
@@ -90,7 +89,7 @@ source_order : (q0 q1 q2 q3 : Bool) → Outcome Refusal (Unit {0})
 source_order q0 q1 q2 q3 = require q0 (refusal 7 0) then require q1 (refusal 7 1) then require q2 (refusal 7 2) then require q3 (refusal 7 3)
 
 sourced : (w k : ℕ) (f : Fit) → Known k w f → (q0 q1 q2 q3 : Bool) → read_number w ≡ (source_order q0 q1 q2 q3 then gives (instruction_of k w))
-    → Judges w (choose q0 (choose q1 (choose q2 (choose q3 (Fits f) (refused 7 3)) (refused 7 2)) (refused 7 1)) (refused 7 0))
+    → Judges w (choose q0 (choose q1 (choose q2 (choose q3 (Ok f) (refused 7 3)) (refused 7 2)) (refused 7 1)) (refused 7 0))
 unfolding source_order ◌then◌
 sourced w k f n false q1 q2 q3 e = e
 sourced w k f n true false q2 q3 e = e
@@ -141,7 +140,7 @@ module _ (k w : ℕ) (h : k < row_count) (e : bit_and w (set_of (fixed_bit (row_
 
 -- ---- a word whose row is found and that has no stray bit
 
-then_assoc : (a b : Outcome Refusal (Unit {0})) (c : Result) → ((a then b) then c) ≡ (a then (b then c))
+then_assoc : (a b : Outcome Refusal (Unit {0})) (c : Told) → ((a then b) then c) ≡ (a then (b then c))
 unfolding ◌then◌
 then_assoc (gives u) b c = refl
 then_assoc (refuses r) b c = refl
@@ -179,7 +178,7 @@ module _ (w k : ℕ) (ek : find rows 0 w ≡ k) (h : k < row_count) (clean : low
           ≡ (require flow_ok (refusal 4 0) then require mask_ok (refusal 5 0) then (modifiers_part then (sources_part then gives i)))
       first r₃ true p true q =
           then_assoc (require flow_ok (refusal 4 0)) _ (gives i)
-          ∙ ap (λ (z : Result). require flow_ok (refusal 4 0) then z) (then_assoc (require mask_ok (refusal 5 0)) _ (gives i) ∙ ap (λ (z : Result). require mask_ok (refusal 5 0) then z) (then_assoc modifiers_part sources_part (gives i)))
+          ∙ ap (λ (z : Told). require flow_ok (refusal 4 0) then z) (then_assoc (require mask_ok (refusal 5 0)) _ (gives i) ∙ ap (λ (z : Told). require mask_ok (refusal 5 0) then z) (then_assoc modifiers_part sources_part (gives i)))
       first r₃ true p false q = clash (sym q)
       first r₃ false p b q = clash (sym p)
 
@@ -261,20 +260,20 @@ told_as n p l h = λ j. record { number = number j; place = place j }
 
 module _ (w : ℕ) where
   -- the line that a lookup gives is that of the row that the word fits
-  pub line_fitted : {l : Line} → some l ≡ map line_of (row_for w) → Fitted w l
-  line_fitted {l} e = go (ltb (find rows 0 w) row_count) refl (e ∙ ap (map line_of) (found_among w))
+  pub line_fitted : {l : Line} → Some l ≡ option_map line_of (row_for w) → Fitted w l
+  line_fitted {l} e = go (ltb (find rows 0 w) row_count) refl (e ∙ ap (option_map line_of) (found_among w))
     where
-      go : (b : Bool) → ltb (find rows 0 w) row_count ≡ b → some l ≡ map line_of (choose b (some (find rows 0 w)) none) → Fitted w l
-      go true p q = record { in_table = ltb-true (find rows 0 w) row_count p; line = some-injective l (line_of (find rows 0 w)) q }
-      go false p q = absurd (some-ne-none l q)
+      go : (b : Bool) → ltb (find rows 0 w) row_count ≡ b → Some l ≡ option_map line_of (choose b (Some (find rows 0 w)) None) → Fitted w l
+      go true p q = record { in_table = ltb-true (find rows 0 w) row_count p; line = Some-injective l (line_of (find rows 0 w)) q }
+      go false p q = absurd (Some-ne-None l q)
 
   -- and where it gives none, no row fits: 2
-  pub none_fits : none ≡ map line_of (row_for w) → Judges w (refused 2 0)
+  pub none_fits : None ≡ option_map line_of (row_for w) → Judges w (refused 2 0)
   unfolding read_row ◌then◌
-  none_fits e = go (ltb (find rows 0 w) row_count) refl (e ∙ ap (map line_of) (found_among w))
+  none_fits e = go (ltb (find rows 0 w) row_count) refl (e ∙ ap (option_map line_of) (found_among w))
     where
-      go : (b : Bool) → ltb (find rows 0 w) row_count ≡ b → none ≡ map line_of (choose b (some (find rows 0 w)) none) → read_number w ≡ refuses (refusal 2 0)
-      go true p q = absurd (none-ne-some (line_of (find rows 0 w)) q)
+      go : (b : Bool) → ltb (find rows 0 w) row_count ≡ b → None ≡ option_map line_of (choose b (Some (find rows 0 w)) None) → read_number w ≡ refuses (refusal 2 0)
+      go true p q = absurd (None-ne-Some (line_of (find rows 0 w)) q)
       go false p q = rw p
 
 module _ (w : ℕ) (hw : w < 2 ^ 64) (l : Line) (fl : Fitted w l) where
@@ -347,11 +346,11 @@ module _ (w : ℕ) (hw : w < 2 ^ 64) (l : Line) (fl : Fitted w l) where
     found_known = known (find rows 0 w) w fl.in_table agreed
 
     -- what the fields get, by what the tests of the line found
-    pub fields_4 : {j : Judged} {x : Bool} {y : ℕ} → x ≡ has 43007 y → y ≡ bits w 59 4 → x ≡ false → j ≡ refused 4 0 → Judges w j
+    pub fields_4 : {j : (Result Fit ℕ)} {x : Bool} {y : ℕ} → x ≡ has 43007 y → y ≡ bits w 59 4 → x ≡ false → j ≡ refused 4 0 → Judges w j
     fields_4 e q z ej = subst (Judges w) (sym ej) (stop_flow w (find rows 0 w) refl fl.in_table found_clean (e ∙ ap (has 43007) q) z)
 
     module _ {x : Bool} {y : ℕ} (e : x ≡ has 43007 y) (q : y ≡ bits w 59 4) (z : x ≡ true) where
-      pub fields_5 : {j : Judged} {m : ℕ} → m ≡ bits (bit_or w l.shape) 46 2 → m ≡ 0 → j ≡ refused 5 0 → Judges w j
+      pub fields_5 : {j : (Result Fit ℕ)} {m : ℕ} → m ≡ bits (bit_or w l.shape) 46 2 → m ≡ 0 → j ≡ refused 5 0 → Judges w j
       fields_5 em zm ej =
           subst (Judges w) (sym ej) (stop_mask w (find rows 0 w) refl fl.in_table found_clean (e ∙ ap (has 43007) q) z (eq-eqb _ 0 (sym (mask_same em) ∙ zm)))
 
@@ -359,7 +358,7 @@ module _ (w : ℕ) (hw : w < 2 ^ 64) (l : Line) (fl : Fitted w l) where
         mask_ne : eqb (bits (bit_or w (shape (row_of (find rows 0 w)) + find rows 0 w * 2 ^ 48)) 46 2) 0 ≡ false
         mask_ne = ne_eqb _ 0 (λ n. zm (mask_same em ∙ n))
 
-        pub fields_6 : {j : Judged} {o : Bool} → o ≡ modifiers_ok l.limits l.pairs w → o ≡ false → j ≡ refused_modifier l.limits l.modifiers l.pairs w → Judges w j
+        pub fields_6 : {j : (Result Fit ℕ)} {o : Bool} → o ≡ modifiers_ok l.limits l.pairs w → o ≡ false → j ≡ refused_modifier l.limits l.modifiers l.pairs w → Judges w j
         fields_6 eo zo ej =
             subst (Judges w) (sym (ej ∙ (λ t. refused_modifier (limits_there t) (widths_there t) (pairs_there t) w)))
             (stop_modifier w (find rows 0 w) refl fl.in_table found_clean (e ∙ ap (has 43007) q) z mask_ne (sym (eo ∙ ok_same) ∙ zo))
@@ -369,13 +368,13 @@ module _ (w : ℕ) (hw : w < 2 ^ 64) (l : Line) (fl : Fitted w l) where
           fit_there : f ≡ fit_of (find rows 0 w) w
           fit_there = ef ∙ (λ t. record { shape = shape_there t; sources = bit_and w (shape_there t) % 4294967296; modifiers = widths_there t })
 
-          pub fields_7 : {j : Judged} → j ≡ judged_sources f w → Judges w j
+          pub fields_7 : {j : (Result Fit ℕ)} → j ≡ judged_sources f w → Judges w j
           fields_7 ej =
               subst (Judges w) (sym (ej ∙ ap (λ (x : Fit). judged_sources x w) fit_there))
               (by_sources w (find rows 0 w) refl fl.in_table found_clean (e ∙ ap (has 43007) q) z mask_ne (sym (eo ∙ ok_same) ∙ zo) found_known)
 
           -- sources that are all below 224 are legal
-          pub fields_low : {j : Judged} → ((i : ℕ) → i < 4 → bits f.sources (8 * i) 8 < 224) → j ≡ Fits f → Judges w j
+          pub fields_low : {j : (Result Fit ℕ)} → ((i : ℕ) → i < 4 → bits f.sources (8 * i) 8 < 224) → j ≡ Ok f → Judges w j
           unfolding judged_sources
           fields_low u ej =
               let v = low_legal f.sources (bits w 57 2) u in

@@ -1,4 +1,5 @@
 -- What a test found, said of what it stands for. Assumes nothing.
+use Rattle.std.specs.Prelude.{Ok}
 use mathlib.Core.Path.{◌≡◌, ap, ap₂, sym, ◌∙◌}
 use mathlib.Core.Bool.{Bool, true, false}
 use Prim.Native.Nat.{ℕ, zero, suc, ◌*◌, ◌^◌, ◌<◌, ◌≤◌}
@@ -11,7 +12,6 @@ use Rattle.bits.specs.Sets.{has}
 use Rattle.rows.specs.Sources.{source_legal}
 use Rattle.judge.specs.Served.Judge.{refused, judged_sources}
 use Rattle.judge.specs.declared.Fit.{Fit}
-use Rattle.judge.specs.declared.Judged.TheVariants.{Fits}
 
 -- membership, asked of a number by another name
 pub asked : (s : ℕ) {u v : ℕ} {x t : Bool} → x ≡ has s v → v ≡ u → x ≡ t → has s u ≡ t
@@ -57,6 +57,6 @@ module _ (f : Fit) (w : ℕ) where
   unfolding judged_sources
   all_of_3 a b c d = rw (a, b, c, d)
 
-  pub all_legal : s 0 ≡ true → s 1 ≡ true → s 2 ≡ true → s 3 ≡ true → Fits f ≡ judged_sources f w
+  pub all_legal : s 0 ≡ true → s 1 ≡ true → s 2 ≡ true → s 3 ≡ true → Ok f ≡ judged_sources f w
   unfolding judged_sources
   all_legal a b c d = rw (a, b, c, d)

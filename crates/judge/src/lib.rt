@@ -13,7 +13,7 @@ ghost use Rattle.judge.specs.Served.Windows.{modifiers_ok, refused_modifier};
 
 use bits::fields::bits_at;
 use bits::sets::{lowest, missing};
-use lookup::{Found, Line, line_of};
+use lookup::{Line, line_of};
 use record::answer::Refusal;
 use sources::source_ok;
 
@@ -25,24 +25,16 @@ pub struct Fit {
     pub modifiers: u64,
 }
 
-// What judging a word gives. A refusal is number + 2^8 place: as one number it is stored and loaded at one width, which is what the
-// processor can forward.
-#[derive(Clone, Copy)]
-pub enum Judged {
-    Fits(Fit),
-    Refused(u64),
-}
-
 // The half mask that names no half, which is refused.
 const NO_HALF: u64 = 0;
 
 // The flows that are not reserved.
 const FLOWS: u64 = 0xA7FF;
 
-fn refuse(number: u8, place: u8) -> Judged
+fn refuse(number: u8, place: u8) -> Result<Fit, u64>
     ensures { result ≡ refused number place }
 {
-    Judged::Refused(number as u64 + 256 * place as u64)
+    Err(number as u64 + 256 * place as u64)
 }
 
 // The refusal that a judgement's number stands for.
@@ -84,7 +76,7 @@ fn modifiers_ok(l: Line, w: u64) -> bool
 }
 
 // The refusal of a word of which a modifier is illegal: of the lowest.
-fn refuse_modifier(l: Line, w: u64) -> Judged
+fn refuse_modifier(l: Line, w: u64) -> Result<Fit, u64>
     ensures { result ≡ refused_modifier l.limits l.modifiers l.pairs w }
 {
     let low = bits_at(w, 26, 4);
@@ -109,7 +101,7 @@ fn refuse_modifier(l: Line, w: u64) -> Judged
 }
 
 // The refusal of the first source that isn't legal on the word's page, else what is known.
-fn judge_sources(f: Fit, w: u64) -> Judged
+fn judge_sources(f: Fit, w: u64) -> Result<Fit, u64>
     ensures { result ≡ judged_sources f w }
 {
     let page = bits_at(w, 57, 2);
@@ -126,11 +118,11 @@ fn judge_sources(f: Fit, w: u64) -> Judged
     if !source_ok(page, bits_at(s, 24, 8)) {
         return refuse(7, 3);
     }
-    Judged::Fits(f)
+    Ok(f)
 }
 
 // What a word gets whose row and bits are right: the first of the refusals 4 to 7, or what is known of it.
-fn judge_fields(l: Line, w: u64) -> Judged
+fn judge_fields(l: Line, w: u64) -> Result<Fit, u64>
     requires { Fitted w l × (bit_and w l.fixed_bits ≡ l.fixed) }
     ensures { Judges w result }
 {
@@ -150,7 +142,7 @@ fn judge_fields(l: Line, w: u64) -> Judged
         modifiers: l.modifiers,
     };
     if all_low(s) {
-        return Judged::Fits(f);
+        return Ok(f);
     }
     judge_sources(f, w)
 }
@@ -165,16 +157,16 @@ fn lowest_stray(l: Line, w: u64) -> u8
 }
 
 // What a word gets: the first of the refusals 2 to 7, or what is known of it.
-pub fn judge_word(w: u64) -> Judged
+pub fn judge_word(w: u64) -> Result<Fit, u64>
     ensures { Judges w result }
 {
     match line_of(w) {
-        Found::Line(l) => {
+        Some(l) => {
             if w & l.fixed_bits == l.fixed {
                 return judge_fields(l, w);
             }
             refuse(3, lowest_stray(l, w))
         }
-        Found::None => refuse(2, 0),
+        None => refuse(2, 0),
     }
 }

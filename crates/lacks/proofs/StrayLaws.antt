@@ -1,12 +1,13 @@
 -- What the row of a word lacks where a bit stands, and the number of that row. Assumes nothing.
+use Rattle.std.specs.Prelude.{None, Some, option_map}
 use mathlib.Core.Path.{◌≡◌, refl, ap, ◌∙◌, subst}
 use mathlib.Core.Bool.{Bool, true, false, ◌||◌}
 use mathlib.Core.List.{◌++◌}
-use mathlib.Core.Option.{none, some, map, none-ne-some}
 use Prim.Native.Nat.{ℕ, ◌/◌, ◌<◌, ◌≤◌}
 use native.Mathlib.Omega.{arith}
 use borrow.Author.Tests.{lt-ltb, le-ltb, ltb-false}
 use lib.Dec.{T, ltb}
+use Rattle.bits.proofs.OptionLaws.{None-ne-Some}
 use Rattle.bits.specs.Fields.{choose, assigned}
 use Rattle.bits.proofs.Every.{every, at, T_true}
 use Rattle.rows.specs.Names.{ascii}
@@ -26,16 +27,16 @@ use Rattle.text.specs.Text.{number_text}
 use Rattle.lacks.specs.Lacks.{lack_at, lack_text, lacks, LackTrue}
 
 module _ (w : ℕ) where
-  pub row_found : {l : Line} → some l ≡ map line_of (row_for w) → l.shape / 281474976710656 ≡ find rows 0 w
+  pub row_found : {l : Line} → Some l ≡ option_map line_of (row_for w) → l.shape / 281474976710656 ≡ find rows 0 w
   unfolding line_of
   row_found {l} e =
       ap (λ (x : Line). x.shape / 281474976710656) (line_fitted w e).line ∙ shape_row (find rows 0 w) (find_le w)
 
-  pub none_found : none ≡ map line_of (row_for w) → row_count ≡ find rows 0 w
-  none_found e = go (ltb (find rows 0 w) row_count) refl (e ∙ ap (map line_of) (found_among w))
+  pub none_found : None ≡ option_map line_of (row_for w) → row_count ≡ find rows 0 w
+  none_found e = go (ltb (find rows 0 w) row_count) refl (e ∙ ap (option_map line_of) (found_among w))
     where
-      go : (b : Bool) → ltb (find rows 0 w) row_count ≡ b → none ≡ map line_of (choose b (some (find rows 0 w)) none) → row_count ≡ find rows 0 w
-      go true p q = absurd (none-ne-some (line_of (find rows 0 w)) q)
+      go : (b : Bool) → ltb (find rows 0 w) row_count ≡ b → None ≡ option_map line_of (choose b (Some (find rows 0 w)) None) → row_count ≡ find rows 0 w
+      go true p q = absurd (None-ne-Some (line_of (find rows 0 w)) q)
       go false p q = omega (arith, find_le w, ltb-false (find rows 0 w) row_count p)
 
 module _ (p : ℕ) where

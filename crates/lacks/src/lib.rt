@@ -7,7 +7,7 @@ ghost use Rattle.rows.specs.Layout.{find};
 ghost use Rattle.text.specs.Text.{Put};
 ghost use Rattle.lacks.specs.Lacks.{stray_text, lack_at, lack_text};
 
-use lookup::{Found, line_of};
+use lookup::line_of;
 use record::instruction::Instruction;
 use text::name::put_name;
 use text::put::{put_enclosed, put_labelled, put_text};
@@ -26,8 +26,8 @@ fn row_of(w: u64) -> usize
     ensures { result ≡ find rows 0 w }
 {
     match line_of(w) {
-        Found::Line(l) => (l.shape / 281474976710656) as usize,
-        Found::None => Instruction::ROWS,
+        Some(l) => (l.shape / 281474976710656) as usize,
+        None => Instruction::ROWS,
     }
 }
 

@@ -1,6 +1,5 @@
 -- That the digits of a line say its numbers whole (02, Items 4 and 7).
-use Rattle.std.specs.Prelude.{◌≡◌, Bool, true, List, ℕ, ◌^◌, ◌<◌, T, ltb}
-use Rattle.std.proofs.Math.Option.{some}
+use Rattle.std.specs.Prelude.{◌≡◌, Bool, true, List, ℕ, ◌^◌, ◌<◌, T, ltb, Some}
 use Rattle.std.proofs.Math.Pow.{are_bytes}
 use Rattle.bits.specs.Lists.{kth}
 use Rattle.safety.specs.Program.{WellFormed}
@@ -51,4 +50,4 @@ pub record Shown (l : Line) : Type 0 where
 -- so of each line of two well-formed containers
 abbrev pub ShownWhole : List ℕ → List ℕ → Type 0
 ShownWhole a b =
-    T (are_bytes a) → T (are_bytes b) → WellFormed a → WellFormed b → (k : ℕ) (l : Line) → kth (differences a b) k ≡ some l → Shown l
+    T (are_bytes a) → T (are_bytes b) → WellFormed a → WellFormed b → (k : ℕ) (l : Line) → kth (differences a b) k ≡ Some l → Shown l

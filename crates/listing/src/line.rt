@@ -10,7 +10,7 @@ use reader::read_number;
 use rows::names::WIDTH;
 use text::name::{Names, put_reading};
 use text::put::{put_byte, put_digits, put_spaced};
-use view::{Fetched, open_count, word_of};
+use view::{open_count, word_of};
 
 // The most bytes that a line has.
 pub(crate) const LONGEST: usize = 4 + 1 + 16 + 1 + WIDTH + 1;
@@ -34,8 +34,8 @@ fn put_word(names: &Names, bytes: &[u8], i: usize, out: &mut [u8]) -> usize
     ensures { Put (line i (word_in (words_of bytes.now) i)) out.old out.new result × (result ≤ longest_line) }
 {
     match word_of(bytes, i) {
-        Fetched::Word(w) => put_line(names, i, w, out),
-        Fetched::Missing(_) => 0,
+        Ok(w) => put_line(names, i, w, out),
+        Err(_) => 0,
     }
 }
 

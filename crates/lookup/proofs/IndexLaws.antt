@@ -1,7 +1,7 @@
 -- The index leads to the row that a word fits, among the rows of its opcode. Assumes nothing.
+use Rattle.std.specs.Prelude.{Option, None, Some, option_map}
 use mathlib.Core.Path.{◌≡◌, refl, sym, ap, ap₂, ◌∙◌}
 use mathlib.Core.Bool.{Bool, true, false, ◌&&◌}
-use mathlib.Core.Option.{Option, none, some, map}
 use Prim.Native.Nat.{ℕ, suc, ◌+◌, ◌-◌, ◌/◌, ◌%◌, ◌^◌, ◌<◌, ◌≤◌}
 use native.Mathlib.Nat.{mod-lt, mod-eq_of_lt}
 use native.Mathlib.Omega.{arith}
@@ -119,13 +119,13 @@ module _ (w : ℕ) where
 -- ---- a word leads to the row that it fits, or to none
 
 abbrev pub candidate : Group → ℕ → Option ℕ
-candidate g w = choose (has g.seconds (second_of g w)) (some (landed g w)) none
+candidate g w = choose (has g.seconds (second_of g w)) (Some (landed g w)) None
 
 candidate_found : (w : ℕ) → candidate (group_of (bits w 48 9)) w ≡ numbered (find rows 0 w)
 candidate_found w = go (has (group_of (bits w 48 9)).seconds (second_of (group_of (bits w 48 9)) w)) refl
   where
     go : (b : Bool) → has (group_of (bits w 48 9)).seconds (second_of (group_of (bits w 48 9)) w) ≡ b
-        → choose b (some (landed (group_of (bits w 48 9)) w)) none ≡ numbered (find rows 0 w)
+        → choose b (Some (landed (group_of (bits w 48 9)) w)) None ≡ numbered (find rows 0 w)
     go true q =
         let c = landed (group_of (bits w 48 9)) w in
         let (h, e) = row_in_cell w q in
@@ -134,7 +134,7 @@ candidate_found w = go (has (group_of (bits w 48 9)).seconds (second_of (group_o
         rw (z, lt-ltb c row_count h)
     go false q = unfit (ltb (find rows 0 w) row_count) refl
       where
-        unfit : (b : Bool) → ltb (find rows 0 w) row_count ≡ b → none ≡ choose b (some (find rows 0 w)) none
+        unfit : (b : Bool) → ltb (find rows 0 w) row_count ≡ b → None ≡ choose b (Some (find rows 0 w)) None
         unfit true p =
             let k = find rows 0 w in
             let h = ltb-true k row_count p in
@@ -154,15 +154,15 @@ module _ (w : ℕ) {s : ℕ} {g : Group} (es : s ≡ slot_of (bits w 48 9)) (eg 
 
   module _ {x : ℕ} (ex : x ≡ bits g.seconds (second_of g w) 1) where
     by : ℕ → Option ℕ
-    by n = choose (eqb n 1) (some (landed g w)) none
+    by n = choose (eqb n 1) (Some (landed g w)) None
 
-    pub led_none : x ≡ 0 → none ≡ map line_of (row_for w)
+    pub led_none : x ≡ 0 → None ≡ option_map line_of (row_for w)
     unfolding by
-    led_none z = ap (map line_of) (ap by (sym (sym ex ∙ z)) ∙ reached)
+    led_none z = ap (option_map line_of) (ap by (sym (sym ex ∙ z)) ∙ reached)
 
-    pub led_line : {l : Line} → x ≡ 1 → l ≡ line_of (landed g w) → some l ≡ map line_of (row_for w)
+    pub led_line : {l : Line} → x ≡ 1 → l ≡ line_of (landed g w) → Some l ≡ option_map line_of (row_for w)
     unfolding by
-    led_line z el = ap some el ∙ ap (map line_of) (ap by (sym (sym ex ∙ z)) ∙ reached)
+    led_line z el = ap Some el ∙ ap (option_map line_of) (ap by (sym (sym ex ∙ z)) ∙ reached)
 
 -- ---- the groups are small
 

@@ -2,10 +2,9 @@
 // compiles to constant data; a constant array that is indexed at run time is stored anew at every call.
 #![tactic(auto)]
 
-ghost use Rattle.std.specs.Prelude.{◌≡◌};
-ghost use Rattle.std.proofs.Math.Option.{map};
+ghost use Rattle.std.specs.Prelude.{◌≡◌, option_map};
 ghost use Rattle.opcoderows.specs.Opcodes.{row_for};
-ghost use Rattle.lookup.specs.Served.Lines.{line_from, line_of, line_found, OwnRow};
+ghost use Rattle.lookup.specs.Served.Lines.{line_from, line_of, OwnRow};
 ghost use Rattle.lookup.specs.Served.Index.{group, group_at, row_under};
 
 use bits::fields::bits_at;
@@ -23,13 +22,6 @@ pub struct Line {
     pub limits: u64,
     pub modifiers: u64,
     pub shape: u64,
-}
-
-// What a word leads to: the line of a row of its opcode, or none.
-#[derive(Clone, Copy)]
-pub enum Found {
-    Line(Line),
-    None,
 }
 
 // The rows of an opcode: where the secondary opcode stands, which ones they have, as a set, and the cell of secondary opcode 0.
@@ -192,14 +184,14 @@ fn line_at(cell: u64) -> Line
 }
 
 // The line of the row that a word fits, looked for among the rows of its opcode only, or none.
-pub fn line_of(w: u64) -> Found
-    ensures answer { line_found result ≡ map line_of (row_for w) }
-    ensures own { OwnRow w (line_found result) }
+pub fn line_of(w: u64) -> Option<Line>
+    ensures answer { result ≡ option_map line_of (row_for w) }
+    ensures own { OwnRow w result }
 {
     let g = group_at(slot_of(bits_at(w, 48, 9)));
     let second = (w >> g.low % 64) & g.mask;
     if bits_at(g.seconds, second, 1) == 0 {
-        return Found::None;
+        return None;
     }
-    Found::Line(line_at(g.cell + second))
+    Some(line_at(g.cell + second))
 }

@@ -77,7 +77,7 @@ fn tell_verdict(errors: &impl Print, bytes: &[u8], input: Input, f: Finding, lin
 fn refuse(errors: &impl Print, bytes: &[u8], input: Input, f: Finding)
     requires { Read input bytes.now × (answer_to bytes.now ≡ refuses f) }
 {
-    let v = Verdict::Refused(f);
+    let v = Err(f);
     let mut line = [0u8; LONGEST_VERDICT];
     let n = write_verdict(v, &mut line);
     tell_verdict(errors, bytes, input, f, &line[..n]);

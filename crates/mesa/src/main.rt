@@ -5,7 +5,7 @@ ghost use Rattle.std.specs.Prelude.{◌≡◌, ◌+◌, ◌≤◌, length};
 
 use bits::bytes::load64;
 use codec::read_word;
-use reader::answer::Reading;
+
 use record::answer::Refusal;
 
 fn text(output: &impl Print, s: &[u8]) {
@@ -39,8 +39,8 @@ fn say_word(output: &impl Print, bytes: &[u8])
     text(output, b" ");
     let r = read_word(bytes);
     match r {
-        Reading::Read(x) => say_name(output, x.row as usize),
-        Reading::Refused(f) => say_refusal(output, f),
+        Ok(x) => say_name(output, x.row as usize),
+        Err(f) => say_refusal(output, f),
     }
     text(output, b"\n");
 }

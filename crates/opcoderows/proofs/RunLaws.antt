@@ -1,8 +1,8 @@
 -- The runs list the rows of each opcode; so the call does what the request asks. Assumes nothing.
+use Rattle.std.specs.Prelude.{None, Some}
 use mathlib.Core.Path.{◌≡◌, refl, sym, ap, ◌∙◌, subst}
 use mathlib.Core.Bool.{Bool, true, false, ◌&&◌}
 use mathlib.Core.List.{List, [], ◌∷◌}
-use mathlib.Core.Option.{none, some}
 use Prim.Native.Nat.{ℕ, zero, suc, ◌+◌, ◌<◌, ◌≤◌}
 use native.Mathlib.Nat.{not-suc-le-zero, le_of_suc-le-suc, add-zero, add-suc, suc-add}
 use native.Mathlib.Omega.{arith}
@@ -87,11 +87,11 @@ run_small o =
 
 -- ---- the k-th row of a run
 
-kth_listed : (p n k : ℕ) → k < n → kth (listed p n) k ≡ some (row_in (p + k))
+kth_listed : (p n k : ℕ) → k < n → kth (listed p n) k ≡ Some (row_in (p + k))
 unfolding kth listed
 kth_listed p zero k h = absurd (not-suc-le-zero h)
-kth_listed p (suc n) zero h = ap (λ (x : ℕ). some (row_in x)) (sym (add-zero p))
-kth_listed p (suc n) (suc k) h = kth_listed (suc p) n k (le_of_suc-le-suc h) ∙ ap (λ (x : ℕ). some (row_in x)) (suc-add p k ∙ sym (add-suc p k))
+kth_listed p (suc n) zero h = ap (λ (x : ℕ). Some (row_in x)) (sym (add-zero p))
+kth_listed p (suc n) (suc k) h = kth_listed (suc p) n k (le_of_suc-le-suc h) ∙ ap (λ (x : ℕ). Some (row_in x)) (suc-add p k ∙ sym (add-suc p k))
 
 length_listed : (p n : ℕ) → length (listed p n) ≡ n
 unfolding listed
@@ -99,10 +99,10 @@ length_listed p zero = refl
 length_listed p (suc n) = ap suc (length_listed (suc p) n)
 
 module _ (o k : ℕ) where
-  pub run_past : (run_of o).count ≤ k → row_with o k ≡ none
+  pub run_past : (run_of o).count ≤ k → row_with o k ≡ None
   run_past h = kth_past (rows_with o) k (subst (λ (n : ℕ). n ≤ k) (sym (ap length (rows_listed o) ∙ length_listed (run_of o).first (run_of o).count)) h)
 
-  pub run_in : k < (run_of o).count → row_with o k ≡ some (row_in ((run_of o).first + k))
+  pub run_in : k < (run_of o).count → row_with o k ≡ Some (row_in ((run_of o).first + k))
   run_in h = ap (λ (xs : List ℕ). kth xs k) (rows_listed o) ∙ kth_listed (run_of o).first (run_of o).count k h
 
 -- ---- rows of the order

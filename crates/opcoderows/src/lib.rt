@@ -2,7 +2,7 @@
 #![tactic(auto)]
 
 ghost use Rattle.std.specs.Prelude.{◌≡◌};
-ghost use Rattle.opcoderows.specs.Opcodes.{row_with, row_found};
+ghost use Rattle.opcoderows.specs.Opcodes.{row_with};
 ghost use Rattle.opcoderows.specs.Served.Slots.{block, block_at, slot_of};
 ghost use Rattle.opcoderows.specs.Served.Runs.{run, run_at, row_in};
 
@@ -21,13 +21,6 @@ pub struct Block {
 pub struct Run {
     pub first: u64,
     pub count: u64,
-}
-
-// What asking for a row of an opcode gives.
-#[derive(Clone, Copy)]
-pub enum RowFound {
-    Row(u8),
-    None,
 }
 
 // A block and a run from their numbers.
@@ -124,12 +117,12 @@ fn row_in(place: u64) -> u64
 }
 
 // The k-th row that has an opcode, from 0 in row order, or none.
-pub fn row_with(opcode: u64, k: u64) -> RowFound
-    ensures { row_found result ≡ row_with opcode k }
+pub fn row_with(opcode: u64, k: u64) -> Option<u8>
+    ensures { result ≡ row_with opcode k }
 {
     let run = run_at(slot_of(opcode));
     if run.count <= k {
-        return RowFound::None;
+        return None;
     }
-    RowFound::Row(row_in(run.first + k) as u8)
+    Some(row_in(run.first + k) as u8)
 }

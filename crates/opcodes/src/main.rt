@@ -2,7 +2,7 @@
 // each that is found.
 #![tactic(auto)]
 
-use opcoderows::{RowFound, row_with};
+use opcoderows::row_with;
 
 fn text(output: &impl Print, s: &[u8]) {
     output.write_all(s).is_ok();
@@ -15,13 +15,13 @@ fn number(output: &impl Print, n: u64) {
 // The k-th row of an opcode, where there is one.
 fn say_row(output: &impl Print, opcode: u64, k: u64) {
     match row_with(opcode, k) {
-        RowFound::Row(row) => {
+        Some(row) => {
             text(output, b" ");
             number(output, k);
             text(output, b":");
             number(output, row as u64);
         }
-        RowFound::None => {}
+        None => {}
     }
 }
 

@@ -1,13 +1,13 @@
 -- Writing a container (01, The parcel; 02, Item 7): its bytes, of a version, an entry set, words and annotations, and the refusal where
 -- these make none.
-use Rattle.std.specs.Prelude.{◌≡◌, Bool, ◌&&◌, List, [], ◌∷◌, ◌++◌, ℕ, ◌*◌, ◌/◌, ◌<◌, ◌≤◌, leb, eqb, length}
+use Rattle.std.specs.Prelude.{◌≡◌, Bool, ◌&&◌, List, [], ◌∷◌, ◌++◌, ℕ, ◌*◌, ◌/◌, ◌<◌, ◌≤◌, leb, eqb, length, Err, Ok, Result}
+use Rattle.reasons.specs.declared.Reason.{Reason}
+use Rattle.reasons.specs.Numbers.{number_of}
 use Rattle.bits.specs.Bytes.{little_bytes}
 use Rattle.bits.specs.Fields.{choose}
 use Rattle.bits.specs.Halves.{halves}
 use Rattle.bits.specs.declared.halves.Halves.{Halves}
 use Rattle.bits.specs.Outcomes.{Outcome, refuses, passes, require, ◌then◌, kept_or}
-use Rattle.packing.specs.declared.Packing.{Packing}
-use Rattle.packing.specs.declared.Packing.TheVariants.{Packed, Refused}
 use Rattle.container.specs.Formats.{known, annotation_length, high_offset, most_of, word_length, container_length}
 use Rattle.container.specs.Opening.{Rejection, unplaced}
 
@@ -54,9 +54,9 @@ container_bytes v entry words annotations =
     front_bytes v (word_count (length words)) ++ halves_bytes v entry ++ words ++ annotations
 
 -- the outcome that each answer stands for: the buffer is filled, or the paper's number with place 0
-abbrev pub packing_outcome : Packing → Outcome Rejection (Unit {0})
-packing_outcome Packed = passes
-packing_outcome (Refused n) = refuses (unplaced n)
+abbrev pub packing_outcome : Result (Unit {0}) Reason → Outcome Rejection (Unit {0})
+packing_outcome (Ok tt) = passes
+packing_outcome (Err r) = refuses (unplaced (number_of r))
 
 -- writing a container into a buffer that holds `out` (01, Numbers given back)
 unfoldable pub pack_outcome : ℕ → Halves → List ℕ → List ℕ → List ℕ → Outcome Rejection (Unit {0})

@@ -9,26 +9,13 @@ use bits::bytes::store64;
 use bits::halves::Halves;
 use container::format::{container_length, format_of, known};
 use container::layout::WORD_LENGTH;
+use reasons::Reason;
 
 // Where the entry set begins.
 const ENTRY: usize = 8;
 
 // The fewest instructions of a container.
 const FEWEST: usize = 1;
-
-// The numbers of the refusals, by reason.
-const WRONG_VERSION: u8 = 11;
-
-const NOT_FITTING: u8 = 12;
-
-const WRONG_LENGTH: u8 = 12;
-
-// What packing ends with: the buffer holds the container, or the number of a refusal.
-#[derive(Drop)]
-pub enum Packing {
-    Packed,
-    Refused(u8),
-}
 
 // Whether words and annotations of these lengths in bytes make a container of a version.
 pub fn fit(version: u64, words: usize, annotations: usize) -> bool
@@ -93,20 +80,20 @@ pub fn pack(
     words: &[u8],
     annotations: &[u8],
     out: &mut [u8],
-) -> Packing
+) -> Result<(), Reason>
     ensures answer { packing_outcome result ≡ pack_outcome version entry words.now annotations.now out.old }
     ensures buffer { out.new ≡ pack_buffer version entry words.now annotations.now out.old }
 {
     if !known(version) {
-        return Packing::Refused(WRONG_VERSION);
+        return Err(Reason::WrongVersion);
     }
     if !fit(version, words.len(), annotations.len()) {
-        return Packing::Refused(NOT_FITTING);
+        return Err(Reason::WrongLength);
     }
     let n = words.len() / WORD_LENGTH;
     if out.len() != container_length(version, n) {
-        return Packing::Refused(WRONG_LENGTH);
+        return Err(Reason::WrongLength);
     }
     fill(version, entry, words, annotations, out);
-    Packing::Packed
+    Ok(())
 }

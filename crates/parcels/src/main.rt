@@ -6,10 +6,11 @@ ghost use Rattle.std.specs.Prelude.{◌≡◌, ◌<◌, length};
 
 use bits::bytes::{load64, wide};
 use bits::halves::{Halves, both};
-use container::header::{Opening, open};
+use container::header::open;
 use container::parts::annotations;
-use packing::{Packing, pack};
-use view::{Fetched, open_count, word_in, word_of};
+use packing::pack;
+use reasons::Reason;
+use view::{open_count, word_in, word_of};
 
 fn text(output: &impl Print, s: &[u8]) {
     output.write_all(s).is_ok();
@@ -35,13 +36,13 @@ fn say_entry(output: &impl Print, version: u64, entry: Halves) {
 
 fn say_opening(output: &impl Print, bytes: &[u8]) {
     match open(bytes) {
-        Opening::Opened(header) => {
+        Ok(header) => {
             text(output, b"opened ");
             number(output, header.count as u64);
             let entry = header.entry;
             say_entry(output, header.version, entry);
         }
-        Opening::Refused(n) => {
+        Err(n) => {
             text(output, b"refused ");
             number(output, n as u64);
         }
@@ -67,10 +68,10 @@ fn say_notes(output: &impl Print, bytes: &[u8]) {
     say_bytes(output, annotations(bytes));
 }
 
-fn say_fetched(output: &impl Print, f: Fetched) {
+fn say_fetched(output: &impl Print, f: Result<u64, Reason>) {
     match f {
-        Fetched::Word(w) => word(output, w),
-        Fetched::Missing(n) => {
+        Ok(w) => word(output, w),
+        Err(n) => {
             text(output, b"refused ");
             number(output, n as u64);
         }
@@ -132,8 +133,8 @@ fn packs(
     out: &mut [u8],
 ) {
     match pack(version, entry, words, notes, out) {
-        Packing::Packed => text(output, b"packed"),
-        Packing::Refused(n) => {
+        Ok(()) => text(output, b"packed"),
+        Err(n) => {
             text(output, b"refused ");
             number(output, n as u64);
         }

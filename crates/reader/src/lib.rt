@@ -7,16 +7,13 @@ ghost use Rattle.reading.specs.Reader.{read_number, read};
 ghost use Rattle.reader.specs.Answers.{reading};
 ghost use Rattle.judge.specs.Served.Judge.{Known, bytes_of};
 
-use crate::answer::Reading;
 use bits::bytes::load64;
 use bits::fields::bits_at;
-use judge::{Fit, Judged, judge_word, refusal_of};
+use judge::{Fit, judge_word, refusal_of};
 use record::answer::Refusal;
 use record::instruction::{Instruction, Sources};
 use record::modifiers::modifiers_in;
 use record::offset::offset_of;
-
-pub mod answer;
 
 // The four lowest bytes.
 fn sources_in(s: u64) -> Sources
@@ -51,21 +48,21 @@ fn instruction_of(f: Fit, w: u64) -> Instruction
 }
 
 // What a word says.
-pub fn read_number(w: u64) -> Reading
+pub fn read_number(w: u64) -> Result<Instruction, Refusal>
     ensures { reading result ≡ read_number w }
 {
     match judge_word(w) {
-        Judged::Fits(f) => Reading::Read(instruction_of(f, w)),
-        Judged::Refused(code) => Reading::Refused(refusal_of(code)),
+        Ok(f) => Ok(instruction_of(f, w)),
+        Err(code) => Err(refusal_of(code)),
     }
 }
 
 // What eight bytes say, and 1 of any other count.
-pub fn read_bytes(bytes: &[u8]) -> Reading
+pub fn read_bytes(bytes: &[u8]) -> Result<Instruction, Refusal>
     ensures { reading result ≡ read bytes.now }
 {
     if bytes.len() != 8 {
-        return Reading::Refused(Refusal {
+        return Err(Refusal {
             number: 1,
             place: 0,
         });

@@ -1,16 +1,14 @@
 -- What the answers mean: for each case the number and the values that it stands for (01, Numbers given back).
-use Rattle.std.specs.Prelude.{ℕ}
+use Rattle.std.specs.Prelude.{ℕ, Err, Ok, Result}
 use Rattle.bits.specs.Outcomes.{Outcome, gives, refuses}
 use Rattle.record.specs.declared.instruction.Instruction.{Instruction}
 use Rattle.record.specs.declared.answer.Refusal.{Refusal}
-use Rattle.record.specs.declared.answer.Fresh.{Fresh}
-use Rattle.record.specs.declared.answer.Fresh.TheVariants.{Made, Refused}
 
 -- a refusal's number and its place; 0 is also the place of those that have none
 abbrev pub refusal : ℕ → ℕ → Refusal
 refusal n p = record { number = n; place = p }
 
 -- the fresh record, or the refusal
-abbrev pub making : Fresh → Outcome Refusal Instruction
-making (Made i) = gives i
-making (Refused f) = refuses f
+abbrev pub making : Result Instruction Refusal → Outcome Refusal Instruction
+making (Ok i) = gives i
+making (Err f) = refuses f

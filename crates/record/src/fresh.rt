@@ -5,7 +5,7 @@ ghost use Rattle.record.specs.Answers.{making};
 ghost use Rattle.record.specs.Lists.{sources_of};
 ghost use Rattle.record.specs.Served.Sources.{default_source, default_sources_in};
 
-use crate::answer::{Fresh, Refusal};
+use crate::answer::Refusal;
 use crate::instruction::{Instruction, Sources};
 use crate::modifiers::modifiers_in;
 use bits::fields::bits_at;
@@ -36,11 +36,11 @@ fn default_sources(shape: u64) -> Sources
 
 impl Instruction {
     // The default instruction of a row, or 2.
-    pub fn fresh(row: usize) -> Fresh
+    pub fn fresh(row: usize) -> Result<Instruction, Refusal>
         ensures { making result ≡ fresh row }
     {
         if Instruction::ROWS <= row {
-            return Fresh::Refused(Refusal {
+            return Err(Refusal {
                 number: 2,
                 place: 0,
             });
@@ -49,7 +49,7 @@ impl Instruction {
         let sources = default_sources(v[3]);
         let modifiers = modifiers_in(v[4], v[5] / 4294967296 * 16777216);
         let half_mask = 3 * (1 - bits_at(v[3], 47, 1));
-        Fresh::Made(Instruction {
+        Ok(Instruction {
             row: row as u8,
             page: 0,
             flow: 0,

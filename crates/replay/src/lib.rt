@@ -45,7 +45,7 @@ fn first_fault<'a>(
         }
         i += 1;
     }
-    Verdict::Accepted
+    Ok(())
 }
 
 // Replays a container that is accepted, against a trace of whole steps.
@@ -65,8 +65,8 @@ fn replay_accepted<'a>(
     let program = decode(w, uniforms, n);
     let v = first_fault(bytes, uniforms, program, n);
     match v {
-        Verdict::Accepted => Replayed::Ran(run(bytes, registers, program, uniforms, trace, limit)),
-        Verdict::Refused(f) => Replayed::Refused(f),
+        Ok(()) => Replayed::Ran(run(bytes, registers, program, uniforms, trace, limit)),
+        Err(f) => Replayed::Refused(f),
     }
 }
 
@@ -84,13 +84,13 @@ pub fn replay<'a>(
 {
     let v = verify(bytes);
     match v {
-        Verdict::Accepted => {
+        Ok(()) => {
             if trace.len() % REGISTERS != 0 {
                 return Replayed::Refused(plain(TRACE_LENGTH, 0, 0));
             }
             return replay_accepted(bytes, registers, uniforms, trace, limit);
         }
-        Verdict::Refused(f) => {
+        Err(f) => {
             return Replayed::Refused(f);
         }
     }

@@ -1,9 +1,9 @@
 -- The steps of a run: no more than the limit, and the first j of them are those of the run with limit j and nothing to compare with.
 -- Assumes nothing.
+use Rattle.std.specs.Prelude.{Option, None, Some}
 use mathlib.Core.Path.{◌≡◌, refl, sym, ap, ◌∙◌}
 use mathlib.Core.Bool.{Bool, true, false}
 use mathlib.Core.List.{List, []}
-use mathlib.Core.Option.{Option, none, some}
 use Prim.Native.Nat.{ℕ, zero, suc, ◌+◌, ◌<◌, ◌≤◌}
 use native.Mathlib.Omega.{arith}
 use lib.Dec.{ltb}
@@ -21,23 +21,23 @@ use Rattle.run.specs.Run.{or_later, steps_run, at, stop, run_from, run}
 use Rattle.replay.specs.Replay.{Asked, asked, judge_trace, judge_asked, replay_outcome, replay_registers}
 use Rattle.replayer.specs.Replaying.{steps_of}
 
-some_none : {A X : Type 0} {x : A} → some x ≡ none → X
+some_none : {A X : Type 0} {x : A} → Some x ≡ None → X
 some_none e = let z : ◌≡◌ {A = ℕ} 0 1 = cc in absurd (omega arith)
 
 -- whatever stops a run after step k, k + 1 steps were run
-stop_counts : (k r : ℕ) (difference_there end : Bool) {s : Stop} → choose difference_there (some (Differs k r)) (choose end (some (Ended (suc k))) none) ≡ some s → steps_run s ≡ suc k
+stop_counts : (k r : ℕ) (difference_there end : Bool) {s : Stop} → choose difference_there (Some (Differs k r)) (choose end (Some (Ended (suc k))) None) ≡ Some s → steps_run s ≡ suc k
 stop_counts k r true end e = ap steps_run (the_one e)
   where
-    the_one : {x y : Stop} → some x ≡ some y → y ≡ x
+    the_one : {x y : Stop} → Some x ≡ Some y → y ≡ x
     the_one q = cc
 stop_counts k r false true e = ap steps_run (the_one e)
   where
-    the_one : {x y : Stop} → some x ≡ some y → y ≡ x
+    the_one : {x y : Stop} → Some x ≡ Some y → y ≡ x
     the_one q = cc
 stop_counts k r false false e = some_none (sym e)
 
 -- where nothing stops it, the instruction does not end the program
-not_ended : (x y : Stop) (difference_there end : Bool) → choose difference_there (some x) (choose end (some y) none) ≡ none → end ≡ false
+not_ended : (x y : Stop) (difference_there end : Bool) → choose difference_there (Some x) (choose end (Some y) None) ≡ None → end ≡ false
 not_ended x y true end e = some_none e
 not_ended x y false true e = some_none e
 not_ended x y false false e = refl
@@ -47,15 +47,15 @@ module _ (p : Program) (uniforms start trace : List ℕ) where
   ended k = ends (p.instruction (at p uniforms start k).index)
 
   -- with nothing to compare with, `end` alone stops a step
-  alone : (k : ℕ) → stop p uniforms start [] k ≡ choose (ended k) (some (Ended (suc k))) none
+  alone : (k : ℕ) → stop p uniforms start [] k ≡ choose (ended k) (Some (Ended (suc k))) None
   unfolding stop difference ended
   alone k = rw (le-ltb k 0 (omega arith))
 
-  onward : (k : ℕ) → stop p uniforms start trace k ≡ none → stop p uniforms start [] k ≡ none
+  onward : (k : ℕ) → stop p uniforms start trace k ≡ None → stop p uniforms start [] k ≡ None
   unfolding stop ended
   onward k e = alone k ∙ rw (not_ended _ _ (ltb (difference (at p uniforms start (suc k)).registers trace k) 64) (ended k) e)
 
-  stops : (k : ℕ) {s : Stop} → stop p uniforms start trace k ≡ some s → steps_run s ≡ suc k
+  stops : (k : ℕ) {s : Stop} → stop p uniforms start trace k ≡ Some s → steps_run s ≡ suc k
   unfolding stop ended
   stops k e = stop_counts k _ (ltb (difference (at p uniforms start (suc k)).registers trace k) 64) (ended k) e
 
@@ -65,15 +65,15 @@ module _ (p : Program) (uniforms start trace : List ℕ) where
   few (suc n) k = go (few n (suc k)) (stop p uniforms start trace k) refl
     where
       go : steps_run (run_from p uniforms start trace (suc k) n) ≤ suc k + n → (o : Option Stop) → stop p uniforms start trace k ≡ o → steps_run (or_later (stop p uniforms start trace k) (run_from p uniforms start trace (suc k) n)) ≤ k + suc n
-      go l (some s) e = rw e (omega (arith, stops k e))
-      go l none e = rw e (omega arith)
+      go l (Some s) e = rw e (omega (arith, stops k e))
+      go l None e = rw e (omega arith)
 
   -- one step, with nothing to compare with
   one : (k : ℕ) → steps_run (run_from p uniforms start [] k 1) ≡ suc k
   unfolding run_from
   one k = ap (λ (o : Option Stop). steps_run (or_later o (Limit (suc k)))) (alone k) ∙ go (ended k)
     where
-      go : (t : Bool) → steps_run (or_later (choose t (some (Ended (suc k))) none) (Limit (suc k))) ≡ suc k
+      go : (t : Bool) → steps_run (or_later (choose t (Some (Ended (suc k))) None) (Limit (suc k))) ≡ suc k
       go true = refl
       go false = refl
 
@@ -84,11 +84,11 @@ module _ (p : Program) (uniforms start trace : List ℕ) where
   counted (suc m) (suc n) k h = go (λ l. counted m n (suc k) l) (stop p uniforms start trace k) refl
     where
       go : (suc k + m ≤ steps_run (run_from p uniforms start trace (suc k) n) → steps_run (run_from p uniforms start [] (suc k) m) ≡ suc k + m) → (o : Option Stop) → stop p uniforms start trace k ≡ o → steps_run (run_from p uniforms start [] k (suc m)) ≡ k + suc m
-      go f (some s) e =
+      go f (Some s) e =
           let l : k + suc m ≤ steps_run s = rw e at h in
           let z : m ≡ 0 = omega (arith, stops k e) in
           rw z (one k ∙ omega arith)
-      go f none e =
+      go f None e =
           let l : k + suc m ≤ steps_run (run_from p uniforms start trace (suc k) n) = rw e at h in
           rw (onward k e) (f (omega arith) ∙ omega arith)
 

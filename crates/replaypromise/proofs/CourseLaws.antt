@@ -1,9 +1,9 @@
 -- How a run goes until it stops. Assumes nothing.
+use Rattle.std.specs.Prelude.{None, Some}
 use mathlib.Core.Path.{◌≡◌, refl, sym, ◌∙◌, subst}
 use mathlib.Core.Bool.{Bool, true, false, true≢false}
 use mathlib.Core.List.{List}
 use mathlib.Core.Logic.{⊎_elim}
-use mathlib.Core.Option.{none, some}
 use Prim.Native.Nat.{ℕ, zero, suc, ◌+◌, ◌≤◌, ◌<◌}
 use native.Mathlib.Nat.{eq-or-lt_of_le}
 use native.Mathlib.Omega.{arith}
@@ -76,7 +76,7 @@ module _ (p : Program) (uniforms start trace : List ℕ) where
   course k (suc n) = go (ltb (gap k) 64) refl (last k) refl (course (suc k) n)
     where
       go : (t : Bool) → ltb (gap k) 64 ≡ t → (u : Bool) → last k ≡ u → Course (suc k) n (run_from p uniforms start trace (suc k) n)
-          → Course k (suc n) (or_later (choose t (some (Differs k (gap k))) (choose u (some (Ended (suc k))) none)) (run_from p uniforms start trace (suc k) n))
+          → Course k (suc n) (or_later (choose t (Some (Differs k (gap k))) (choose u (Some (Ended (suc k))) None)) (run_from p uniforms start trace (suc k) n))
       go true e u f c = differs k n (gap k) refl (ltb-true (gap k) 64 e)
       go false e true f c = ended k n (ltb-false (gap k) 64 e) f
       go false e false f c = goes k n _ (ltb-false (gap k) 64 e) f c

@@ -119,7 +119,7 @@ pub fn put_answer(a: Replayed, registers: &[u32; REGISTERS], trace: &[u32], out:
 {
     match a {
         Replayed::Ran(s) => put_stop(s, registers, trace, out),
-        Replayed::Refused(f) => put_verdict(Verdict::Refused(f), out),
+        Replayed::Refused(f) => put_verdict(Err(f), out),
     }
 }
 

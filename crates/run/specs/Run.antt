@@ -1,7 +1,6 @@
 -- The run: steps from instruction 0 on, until something stops it (02, Item 8).
-use Rattle.std.specs.Prelude.{Bool, ltb}
+use Rattle.std.specs.Prelude.{Bool, ltb, Option, None, Some}
 use mathlib.Core.List.{List, [], ◌∷◌}
-use Rattle.std.proofs.Math.Option.{Option, none, some}
 use Prim.Native.Nat.{ℕ, zero, suc}
 use Rattle.bits.specs.Fields.{choose}
 use Rattle.record.specs.Registers.{ends}
@@ -13,12 +12,12 @@ use Rattle.run.specs.declared.Stop.TheVariants.{Differs, Ended, Limit}
 
 -- what stops a run after step k, by the lowest register that differs then, 64 for none, and by whether its instruction has flow `end`
 abbrev pub stopped : ℕ → ℕ → Bool → Option Stop
-stopped k r end = choose (ltb r 64) (some (Differs k r)) (choose end (some (Ended (suc k))) none)
+stopped k r end = choose (ltb r 64) (Some (Differs k r)) (choose end (Some (Ended (suc k))) None)
 
 -- the first that stops it
 abbrev pub or_later : Option Stop → Stop → Stop
-or_later (some s) later = s
-or_later none later = later
+or_later (Some s) later = s
+or_later None later = later
 
 -- how many steps were run
 abbrev pub steps_run : Stop → ℕ

@@ -1,5 +1,6 @@
 -- The order in which the code goes: one pass over the words finds what reading all of them and then judging the program finds. Assumes
 -- nothing.
+use Rattle.std.specs.Prelude.{Err, Ok, Result}
 use mathlib.Core.Path.{◌≡◌, refl, sym, ap, ap₂, ◌∙◌}
 use mathlib.Core.Bool.{true, false}
 use mathlib.Core.List.{List}
@@ -21,16 +22,14 @@ use Rattle.container.specs.Opening.{unplaced, open_outcome}
 use Rattle.container.proofs.OpeningLaws.{sized, length_words, length_annotations}
 use Rattle.safety.specs.Program.{Program, successors, instruction_in, instruction_at, annotation_at, program_in, Worded, Annotated}
 use Rattle.safety.specs.declared.verdict.Finding.{Finding}
-use Rattle.safety.specs.declared.verdict.Verdict.{Verdict}
-use Rattle.safety.specs.declared.verdict.Verdict.TheVariants.{Accepted, Refused}
 use Rattle.safety.specs.Verdict.{Judgement, verdict_outcome, none_missing, judge_opening, judge_reading, judge_word, judge_flow, judge_index, judge_program, verdict_of, all_read, plain}
 
 -- a verdict and what follows it
-pub followed : {r : Verdict} {a b c : Judgement} → r ≡ Accepted → verdict_outcome r ≡ a → c ≡ b → c ≡ (a then b)
+pub followed : {r : (Result (Unit {0}) Finding)} {a b c : Judgement} → r ≡ (Ok tt) → verdict_outcome r ≡ a → c ≡ b → c ≡ (a then b)
 unfolding ◌then◌
 followed er ea ec = ec ∙ rw (sym ea ∙ ap verdict_outcome er)
 
-pub halted : {r : Verdict} {a : Judgement} {f : Finding} (b : Judgement) → r ≡ Refused f → verdict_outcome r ≡ a → refuses f ≡ (a then b)
+pub halted : {r : (Result (Unit {0}) Finding)} {a : Judgement} {f : Finding} (b : Judgement) → r ≡ Err f → verdict_outcome r ≡ a → refuses f ≡ (a then b)
 unfolding ◌then◌
 halted b er ea = rw (sym ea ∙ ap verdict_outcome er)
 

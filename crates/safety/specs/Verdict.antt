@@ -1,7 +1,7 @@
 -- The verdict (the paper's check), with the refusals in the order of 01, Numbers given back: opening, the lowest word that does not read,
 -- 23, and then for each instruction 20, and 21 and 22 for the fall-through and after it for the branch target. Of registers it goes by
 -- halves (02, Item 7).
-use Rattle.std.specs.Prelude.{List, ℕ, eqb, ltb, ℤ, pos, negsuc}
+use Rattle.std.specs.Prelude.{List, ℕ, eqb, ltb, ℤ, pos, negsuc, Err, Ok, Result}
 use Rattle.bits.specs.Fields.{choose}
 use Rattle.bits.specs.Sets.{has, lowest}
 use Rattle.bits.specs.Halves.{Half, lower, upper, both, either, minus_halves}
@@ -17,8 +17,6 @@ use Rattle.container.specs.Opening.{Rejection, open_outcome}
 use Rattle.safety.specs.declared.verdict.Reported.{Reported}
 use Rattle.safety.specs.declared.verdict.Reported.TheVariants.{Neither, Low, High}
 use Rattle.safety.specs.declared.verdict.Finding.{Finding}
-use Rattle.safety.specs.declared.verdict.Verdict.{Verdict}
-use Rattle.safety.specs.declared.verdict.Verdict.TheVariants.{Accepted, Refused}
 use Rattle.safety.specs.Program.{Program, successors, after, program_of}
 
 -- what a verdict ends with: nothing to tell, or a finding: the number of the refusal, its place, the index of an instruction, the lowest
@@ -37,9 +35,9 @@ abbrev pub plain : ℕ → ℕ → ℕ → Finding
 plain n p i = finding n p i no_register Neither
 
 -- the judgement that each verdict stands for
-abbrev pub verdict_outcome : Verdict → Judgement
-verdict_outcome Accepted = passes
-verdict_outcome (Refused f) = refuses f
+abbrev pub verdict_outcome : Result (Unit {0}) Finding → Judgement
+verdict_outcome (Ok tt) = passes
+verdict_outcome (Err f) = refuses f
 
 -- a container that does not open: index 0
 abbrev pub judge_opening : Outcome Rejection Header → Judgement

@@ -10,7 +10,7 @@ use bits::halves::{Halves, either, missing_halves};
 use bits::sets::lowest;
 
 // Which half of a register is told.
-#[derive(Clone, Copy)]
+#[derive(Clone, Copy, Debug, PartialEq, Eq)]
 pub enum Reported {
     Neither,
     Low,
@@ -18,7 +18,7 @@ pub enum Reported {
 }
 
 // Why a container is refused: the number, its place, the instruction, the lowest register at fault and which half of it.
-#[derive(Clone, Copy)]
+#[derive(Clone, Copy, Debug, PartialEq, Eq)]
 pub struct Finding {
     pub number: u8,
     pub place: u8,
@@ -27,12 +27,8 @@ pub struct Finding {
     pub half: Reported,
 }
 
-// What the verifier says of a container.
-#[derive(Clone, Copy)]
-pub enum Verdict {
-    Accepted,
-    Refused(Finding),
-}
+// What the verifier says of a container: accepted, or why it is refused.
+pub type Verdict = Result<(), Finding>;
 
 // The register of a finding where none is at fault.
 pub const NO_REGISTER: u32 = 64;
@@ -41,7 +37,7 @@ pub const NO_REGISTER: u32 = 64;
 fn refused_at(number: u8, index: usize, register: u32, half: Reported) -> Verdict
     ensures { verdict_outcome result ≡ refuses (finding number 0 index register half) }
 {
-    Verdict::Refused(Finding {
+    Err(Finding {
         number,
         place: 0,
         index,
@@ -66,7 +62,7 @@ pub fn plain(number: u8, place: u8, index: usize) -> Finding
 pub fn refused(number: u8, place: u8, index: usize) -> Verdict
     ensures { verdict_outcome result ≡ refuses (plain number place index) }
 {
-    Verdict::Refused(plain(number, place, index))
+    Err(plain(number, place, index))
 }
 
 // Of some halves, whose lowest register is r, the half that is told.
@@ -86,7 +82,7 @@ fn none_of(number: u8, index: usize, s: Halves) -> Verdict
 {
     let any = either(s);
     if any == 0 {
-        return Verdict::Accepted;
+        return Ok(());
     }
     let r = lowest(any);
     refused_at(number, index, r, half_told(s, r))

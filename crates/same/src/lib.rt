@@ -6,7 +6,8 @@ ghost use Rattle.record.specs.Lists.{source_list, modifier_list};
 ghost use Rattle.reader.specs.Answers.{reading};
 ghost use Rattle.writing.specs.Writer.{same_list, heads, same, is_record};
 
-use reader::answer::Reading;
+
+use record::answer::Refusal;
 use record::instruction::{Instruction, Modifiers, Sources};
 
 // Are two runs of bytes equal?
@@ -78,11 +79,11 @@ fn same_instruction(a: Instruction, b: Instruction) -> bool
 }
 
 // Was this record read?
-pub fn is_record(x: Reading, i: Instruction) -> bool
+pub fn is_record(x: Result<Instruction, Refusal>, i: Instruction) -> bool
     ensures { result ≡ is_record (reading x) i }
 {
     match x {
-        Reading::Read(a) => same_instruction(a, i),
-        Reading::Refused(_) => false,
+        Ok(a) => same_instruction(a, i),
+        Err(_) => false,
     }
 }

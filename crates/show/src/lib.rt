@@ -13,7 +13,7 @@ ghost use Rattle.show.specs.Show.{head, told_of, shown_of, shown, longest_head, 
 
 use crate::program::put_program;
 use bits::halves::Halves;
-use container::header::{Header, Opening, open};
+use container::header::{Header, open};
 use container::layout::MOST_INSTRUCTIONS;
 use container::parts::{annotations, words};
 use registertext::put_registers;
@@ -63,10 +63,10 @@ fn told_of(version: u64, v: Verdict) -> Verdict
     ensures { verdict_outcome result ≡ told_of version (verdict_outcome v) }
 {
     match v {
-        Verdict::Accepted => Verdict::Accepted,
-        Verdict::Refused(f) => {
+        Ok(()) => Ok(()),
+        Err(f) => {
             let half = f.half;
-            Verdict::Refused(Finding {
+            Err(Finding {
                 number: f.number,
                 place: f.place,
                 index: f.index,
@@ -99,8 +99,8 @@ fn put_shown(bytes: &[u8], out: &mut [u8]) -> usize
     let v = verifier::verify(bytes);
     let o = open(bytes);
     match o {
-        Opening::Opened(h) => put_opened(bytes, h, v, out),
-        Opening::Refused(_) => put_verdict(v, out),
+        Ok(h) => put_opened(bytes, h, v, out),
+        Err(_) => put_verdict(v, out),
     }
 }
 

@@ -8,7 +8,7 @@ ghost use Rattle.showlines.specs.Served.Marks.{marked_at, marks_of};
 
 use crate::line::number_at;
 use container::layout::MOST_INSTRUCTIONS;
-use reader::answer::Reading;
+
 use reader::read_number;
 use wordtext::column::{jumps, lands};
 
@@ -18,13 +18,13 @@ fn leads(n: usize, i: usize, w: u64) -> usize
 {
     let r = read_number(w);
     match r {
-        Reading::Read(x) => {
+        Ok(x) => {
             if jumps(x) {
                 return lands(n, i, x);
             }
             n
         }
-        Reading::Refused(_) => n,
+        Err(_) => n,
     }
 }
 

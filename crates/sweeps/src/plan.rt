@@ -8,7 +8,7 @@ ghost use Rattle.sweeps.specs.Served.Plan.{step, Planned, Sized};
 
 use bits::halves::Halves;
 use flow::{branch_target, fills};
-use reader::answer::Reading;
+
 use record::instruction::Instruction;
 use safety::verdict::{Verdict, refused};
 use verifier::program::reading_at;
@@ -74,7 +74,7 @@ pub fn make_plan(
     while i < n {
         let r = reading_at(words, n, i);
         match r {
-            Reading::Read(x) => {
+            Ok(x) => {
                 let s = step_of(version, x, i, n);
                 kills[i] = s.kills;
                 lows[i] = s.fills.low;
@@ -82,11 +82,11 @@ pub fn make_plan(
                 falls[i] = s.falls;
                 jumps[i] = s.jumps;
             }
-            Reading::Refused(f) => {
+            Err(f) => {
                 return refused(f.number, f.place, i);
             }
         }
         i += 1;
     }
-    Verdict::Accepted
+    Ok(())
 }

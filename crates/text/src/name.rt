@@ -6,7 +6,7 @@ ghost use Rattle.text.specs.Text.{space, Put};
 ghost use Rattle.text.specs.Name.{name_in};
 
 use crate::put::{put_byte, put_padded};
-use reader::answer::Reading;
+use record::answer::Refusal;
 use record::instruction::Instruction;
 use rows::names::WIDTH;
 
@@ -27,13 +27,13 @@ pub fn put_name(names: &Names, row: usize, out: &mut [u8]) -> usize
 }
 
 // A space, and the name of the instruction that was read.
-pub fn put_reading(names: &Names, r: Reading, out: &mut [u8]) -> usize
+pub fn put_reading(names: &Names, r: Result<Instruction, Refusal>, out: &mut [u8]) -> usize
     requires { (names.now ≡ all_names) × (1 + name_width ≤ length out.old) }
     ensures { Put (space ∷ name_in (reading r)) out.old out.new result × (result ≤ 1 + name_width) }
 {
     let at = put_byte(b' ', out);
     match r {
-        Reading::Read(x) => at + put_name(names, x.row as usize, &mut out[at..]),
-        Reading::Refused(_) => at,
+        Ok(x) => at + put_name(names, x.row as usize, &mut out[at..]),
+        Err(_) => at,
     }
 }

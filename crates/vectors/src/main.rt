@@ -2,11 +2,10 @@
 #![tactic(auto)]
 
 use codec::{read_word, write_word};
-use reader::answer::Reading;
-use record::answer::{Fresh, Refusal};
-use record::instruction::{Instruction, MODIFIERS, Modifiers, Sources};
+use record::answer::Refusal;
+use record::instruction::{MODIFIERS, Instruction, Modifiers, Sources};
 use sources::Source;
-use writer::answer::Written;
+
 
 fn text(output: &impl Print, s: &[u8]) {
     output.write_all(s).is_ok();
@@ -43,8 +42,8 @@ fn reads(output: &impl Print, label: &[u8], bytes: &[u8]) {
     text(output, b": ");
     let r = read_word(bytes);
     match r {
-        Reading::Read(i) => say_name(output, i.row as usize),
-        Reading::Refused(f) => say_refusal(output, f),
+        Ok(i) => say_name(output, i.row as usize),
+        Err(f) => say_refusal(output, f),
     }
     text(output, b"\n");
 }
@@ -57,8 +56,8 @@ fn reads_word(output: &impl Print, w: u64) {
     text(output, b": ");
     let r = read_word(&bytes);
     match r {
-        Reading::Read(i) => say_name(output, i.row as usize),
-        Reading::Refused(f) => say_refusal(output, f),
+        Ok(i) => say_name(output, i.row as usize),
+        Err(f) => say_refusal(output, f),
     }
     text(output, b"\n");
 }
@@ -90,8 +89,8 @@ fn writes(output: &impl Print, label: &[u8], i: Instruction, buffer: &mut [u8]) 
     text(output, b": ");
     let w = write_word(i, buffer);
     match w {
-        Written::Done => text(output, b"done"),
-        Written::Refused(f) => say_refusal(output, f),
+        Ok(()) => text(output, b"done"),
+        Err(f) => say_refusal(output, f),
     }
     say_kept(output, buffer);
 }
@@ -104,11 +103,11 @@ fn writes_word(output: &impl Print, label: &[u8], i: Instruction) {
     text(output, b": ");
     let w = write_word(i, &mut buffer);
     match w {
-        Written::Done => {
+        Ok(()) => {
             print!(output; "{:016x}", bits::bytes::load64(&buffer)).is_ok();
             text(output, b"\n");
         }
-        Written::Refused(f) => {
+        Err(f) => {
             say_refusal(output, f);
             say_kept(output, &buffer);
         }
@@ -119,8 +118,8 @@ fn writes_word(output: &impl Print, label: &[u8], i: Instruction) {
 fn fresh(row: usize) -> Instruction {
     let a = Instruction::fresh(row);
     match a {
-        Fresh::Made(i) => i,
-        Fresh::Refused(_) => fresh_zero(),
+        Ok(i) => i,
+        Err(_) => fresh_zero(),
     }
 }
 
@@ -158,8 +157,8 @@ fn past_the_table(output: &impl Print) {
     text(output, b"fresh 77: ");
     let a = Instruction::fresh(77);
     match a {
-        Fresh::Made(_) => text(output, b"made"),
-        Fresh::Refused(f) => say_refusal(output, f),
+        Ok(_) => text(output, b"made"),
+        Err(f) => say_refusal(output, f),
     }
     text(output, b"\n");
 }
@@ -272,8 +271,8 @@ fn special_entry(output: &impl Print, page: u8, entry: u8) {
     );
     let r = read_word(&bytes);
     match r {
-        Reading::Read(_) => text(output, b"read"),
-        Reading::Refused(f) => say_refusal(output, f),
+        Ok(_) => text(output, b"read"),
+        Err(f) => say_refusal(output, f),
     }
     text(output, b", ");
     say_meaning(output, page, 192 | entry);
@@ -329,8 +328,8 @@ fn row_default(output: &impl Print, row: usize) {
     text(output, b" ");
     let r = read_word(&buffer);
     match r {
-        Reading::Read(i) => say_again(output, i, buffer),
-        Reading::Refused(f) => say_refusal(output, f),
+        Ok(i) => say_again(output, i, buffer),
+        Err(f) => say_refusal(output, f),
     }
     text(output, b"\n");
 }

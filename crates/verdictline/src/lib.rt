@@ -26,8 +26,8 @@ pub fn all_read(v: Verdict) -> bool
     ensures { result ≡ lists (verdict_outcome v) }
 {
     match v {
-        Verdict::Accepted => true,
-        Verdict::Refused(f) => WORDS_READ <= f.number,
+        Ok(()) => true,
+        Err(f) => WORDS_READ <= f.number,
     }
 }
 
@@ -87,8 +87,8 @@ pub fn put_verdict(v: Verdict, out: &mut [u8]) -> usize
     ensures { Put (verdict_line (verdict_outcome v)) out.old out.new result × (result ≤ longest_verdict) }
 {
     match v {
-        Verdict::Accepted => put_text(b"ACCEPTED\n", out),
-        Verdict::Refused(f) => put_finding(f, out),
+        Ok(()) => put_text(b"ACCEPTED\n", out),
+        Err(f) => put_finding(f, out),
     }
 }
 

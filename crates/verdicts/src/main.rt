@@ -42,8 +42,8 @@ fn say_finding(output: &impl Print, f: Finding) {
 fn say_verdict(output: &impl Print, container: &[u8]) {
     let v = verify(container);
     match v {
-        Verdict::Accepted => text(output, b" ACCEPTED"),
-        Verdict::Refused(f) => say_finding(output, f),
+        Ok(()) => text(output, b" ACCEPTED"),
+        Err(f) => say_finding(output, f),
     }
     text(output, b"\n");
 }

@@ -97,8 +97,8 @@ pub fn put_fault(v: Verdict, out: &mut [u8]) -> usize
     ensures { Put (fault_line (verdict_outcome v)) out.old out.new result × (result ≤ longest_fault) }
 {
     match v {
-        Verdict::Accepted => 0,
-        Verdict::Refused(f) => put_below(f, out),
+        Ok(()) => 0,
+        Err(f) => put_below(f, out),
     }
 }
 
@@ -107,8 +107,8 @@ pub fn fault_index(v: Verdict) -> usize
     ensures { result ≡ fault_index (verdict_outcome v) }
 {
     match v {
-        Verdict::Accepted => 0,
-        Verdict::Refused(f) => f.index,
+        Ok(()) => 0,
+        Err(f) => f.index,
     }
 }
 
@@ -157,10 +157,10 @@ pub fn put_verdict(v: Verdict, out: &mut [u8]) -> usize
     ensures { Put (verdict_text (verdict_outcome v)) out.old out.new result × (result ≤ longest_verdict) }
 {
     match v {
-        Verdict::Accepted => put_text(
+        Ok(()) => put_text(
             b"ACCEPTED: whichever way the program goes, it reads no register that is not filled, if the display fills what the parcel says.\n",
             out,
         ),
-        Verdict::Refused(f) => put_refused(f, out),
+        Err(f) => put_refused(f, out),
     }
 }

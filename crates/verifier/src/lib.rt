@@ -9,7 +9,7 @@ ghost use Rattle.safety.specs.Demand3.{Demand3At};
 ghost use Rattle.safety.specs.Reasons.{Grounded};
 
 use crate::program::{judge_words, read_from};
-use container::header::{Opening, open};
+use container::header::open;
 use container::parts::{annotations, words};
 use safety::verdict::{Verdict, refused};
 
@@ -22,14 +22,14 @@ pub fn verify(bytes: &[u8]) -> Verdict
     ensures reason { Grounded bytes.now (verdict_outcome result) }
 {
     match open(bytes) {
-        Opening::Opened(header) => {
+        Ok(header) => {
             let n = header.count;
             let entry = header.entry;
             let notes = annotations(bytes);
             return judge_words(header.version, words(bytes), notes, n, entry);
         }
-        Opening::Refused(number) => {
-            return refused(number, 0, 0);
+        Err(reason) => {
+            return refused(reason.number(), 0, 0);
         }
     }
 }
@@ -39,12 +39,12 @@ pub fn read_all(bytes: &[u8]) -> Verdict
     ensures { verdict_outcome result ≡ all_read bytes.now }
 {
     match open(bytes) {
-        Opening::Opened(header) => {
+        Ok(header) => {
             let n = header.count;
             return read_from(words(bytes), n, 0);
         }
-        Opening::Refused(reason) => {
-            return refused(reason, 0, 0);
+        Err(unopened) => {
+            return refused(unopened.number(), 0, 0);
         }
     }
 }

@@ -12,7 +12,7 @@ use bits::halves::Halves;
 use codec::read_word;
 use container::layout::WORD_LENGTH;
 use flow::{annotation_at, judge_flow};
-use reader::answer::Reading;
+use record::answer::Refusal;
 use record::instruction::Instruction;
 use safety::verdict::{Finding, Verdict, none_missing, refused};
 
@@ -20,7 +20,7 @@ use safety::verdict::{Finding, Verdict, none_missing, refused};
 const ENTRY_MISSING: u8 = 23;
 
 // The word at index i, read.
-pub fn reading_at(words: &[u8], n: usize, i: usize) -> Reading
+pub fn reading_at(words: &[u8], n: usize, i: usize) -> Result<Instruction, Refusal>
     requires { Worded words.now n × (i < n) }
     ensures { reading result ≡ read (eight words.now i) }
 {
@@ -38,14 +38,14 @@ pub(crate) fn read_from(words: &[u8], n: usize, from: usize) -> Verdict
     while i < n {
         let r = reading_at(words, n, i);
         match r {
-            Reading::Read(_) => {}
-            Reading::Refused(x) => {
+            Ok(_) => {}
+            Err(x) => {
                 return refused(x.number, x.place, i);
             }
         }
         i += 1;
     }
-    Verdict::Accepted
+    Ok(())
 }
 
 // The same, and else the refusal f.
@@ -55,8 +55,8 @@ fn unreadable_from(words: &[u8], n: usize, from: usize, f: Finding) -> Verdict
 {
     let v = read_from(words, n, from);
     match v {
-        Verdict::Accepted => Verdict::Refused(f),
-        Verdict::Refused(x) => Verdict::Refused(x),
+        Ok(()) => Err(f),
+        Err(x) => Err(x),
     }
 }
 
@@ -69,22 +69,22 @@ fn judge_instructions<'a>(version: u64, words: &'a [u8], annotations: &'a [u8], 
     while i < n {
         let r = reading_at(words, n, i);
         match r {
-            Reading::Read(x) => {
+            Ok(x) => {
                 let v = judge_flow(version, annotations, n, i, x);
                 match v {
-                    Verdict::Accepted => {}
-                    Verdict::Refused(f) => {
+                    Ok(()) => {}
+                    Err(f) => {
                         return unreadable_from(words, n, i + 1, f);
                     }
                 }
             }
-            Reading::Refused(x) => {
+            Err(x) => {
                 return refused(x.number, x.place, i);
             }
         }
         i += 1;
     }
-    Verdict::Accepted
+    Ok(())
 }
 
 // The verdict on n words and annotations, before which `entry` is defined. A word that does not read comes before any other refusal.
@@ -101,7 +101,7 @@ pub fn judge_words<'a>(
     let first = annotation_at(version, annotations, n, 0);
     let v = none_missing(ENTRY_MISSING, 0, first, entry);
     match v {
-        Verdict::Accepted => judge_instructions(version, words, annotations, n),
-        Verdict::Refused(f) => unreadable_from(words, n, 0, f),
+        Ok(()) => judge_instructions(version, words, annotations, n),
+        Err(f) => unreadable_from(words, n, 0, f),
     }
 }

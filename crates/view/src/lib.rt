@@ -6,17 +6,9 @@ ghost use Rattle.view.specs.Words.{fetched_outcome, word_outcome, open_count};
 
 use bits::bytes::load64;
 use container::format::format_of;
-use container::header::{Opening, open, version_in};
+use container::header::{open, version_in};
 use container::layout::{SHORTEST_HEADER, WORD_LENGTH};
-
-const NO_WORD: u8 = 14;
-
-// What asking for a word finds: the word, or the number of a refusal.
-#[derive(Clone, Copy)]
-pub enum Fetched {
-    Word(u64),
-    Missing(u8),
-}
+use reasons::Reason;
 
 // A container's bytes, and how many instructions they hold.
 #[derive(Clone, Copy)]
@@ -26,25 +18,25 @@ pub struct View<'a> {
 }
 
 // The word at index i of the bytes of a container of n instructions. Their version says how long the header is.
-pub fn word_in(bytes: &[u8], n: usize, i: usize) -> Fetched
+pub fn word_in(bytes: &[u8], n: usize, i: usize) -> Result<u64, Reason>
     ensures { fetched_outcome result ≡ word_outcome bytes.now n i }
 {
     if n <= i {
-        return Fetched::Missing(NO_WORD);
+        return Err(Reason::NoWord);
     }
     if bytes.len() < SHORTEST_HEADER + WORD_LENGTH {
-        return Fetched::Missing(NO_WORD);
+        return Err(Reason::NoWord);
     }
     let f = format_of(version_in(bytes));
     if bytes.len() < f.header + WORD_LENGTH {
-        return Fetched::Missing(NO_WORD);
+        return Err(Reason::NoWord);
     }
     if (bytes.len() - (f.header + WORD_LENGTH)) / WORD_LENGTH < i {
-        return Fetched::Missing(NO_WORD);
+        return Err(Reason::NoWord);
     }
     let start = f.header + WORD_LENGTH * i;
     let end = start + WORD_LENGTH;
-    Fetched::Word(load64(&bytes[start..end]))
+    Ok(load64(&bytes[start..end]))
 }
 
 // How many instructions there are; none where the bytes do not open.
@@ -52,10 +44,10 @@ pub fn open_count(bytes: &[u8]) -> usize
     ensures { result ≡ open_count bytes.now }
 {
     match open(bytes) {
-        Opening::Opened(header) => {
+        Ok(header) => {
             return header.count;
         }
-        Opening::Refused(_) => {
+        Err(_) => {
             return 0;
         }
     }
@@ -70,14 +62,14 @@ pub fn view_of<'a>(bytes: &'a [u8]) -> View<'a>
 }
 
 // The word at index i of a view, whoever made it.
-pub fn word_at<'a>(view: View<'a>, i: usize) -> Fetched
+pub fn word_at<'a>(view: View<'a>, i: usize) -> Result<u64, Reason>
     ensures { fetched_outcome result ≡ word_outcome view.entry.bytes.now view.entry.n i }
 {
     word_in(view.bytes, view.n, i)
 }
 
 // The word at index i of a container.
-pub fn word_of(bytes: &[u8], i: usize) -> Fetched
+pub fn word_of(bytes: &[u8], i: usize) -> Result<u64, Reason>
     ensures { fetched_outcome result ≡ word_outcome bytes.now (open_count bytes.now) i }
 {
     word_at(view_of(bytes), i)

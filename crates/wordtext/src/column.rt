@@ -11,7 +11,7 @@ use disasm::put_instruction;
 use flow::branch_target;
 use lacks::put_stray;
 use leftout::put_left_out;
-use reader::answer::Reading;
+
 use reader::read_number;
 use record::answer::Refusal;
 use record::instruction::Instruction;
@@ -140,7 +140,7 @@ pub fn put_column(n: usize, i: usize, w: u64, out: &mut [u8]) -> usize
 {
     let r = read_number(w);
     match r {
-        Reading::Read(x) => put_read(n, i, w, x, out),
-        Reading::Refused(f) => put_refused(n, i, w, f, out),
+        Ok(x) => put_read(n, i, w, x, out),
+        Err(f) => put_refused(n, i, w, f, out),
     }
 }

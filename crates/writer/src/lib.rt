@@ -7,9 +7,8 @@ ghost use Rattle.record.specs.Answers.{refusal};
 ghost use Rattle.writer.specs.Answers.{writing};
 ghost use Rattle.writing.specs.Writer.{write, stored};
 
-use crate::answer::Written;
 use bits::bytes::store64;
-use judge::{Judged, judge_word, refusal_of};
+use judge::{judge_word, refusal_of};
 use reader::read_number;
 use record::answer::Refusal;
 use record::instruction::Instruction;
@@ -18,17 +17,15 @@ use same::is_record;
 use wordparts::room::numbers_fit;
 use wordparts::word::word_of;
 
-pub mod answer;
-
 // A refusal that names no place.
-fn refused(number: u8) -> Written
+fn refused(number: u8) -> Result<(), Refusal>
     ensures { writing result ≡ refuses (refusal number 0) }
 {
-    Written::Refused(Refusal { number, place: 0 })
+    Err(Refusal { number, place: 0 })
 }
 
 // Writes an instruction's word into a buffer, or leaves the buffer as it is on the first of the refusals 8, 2, 9, 4 to 7, 15.
-pub fn write_buffer(i: Instruction, buffer: &mut [u8]) -> Written
+pub fn write_buffer(i: Instruction, buffer: &mut [u8]) -> Result<(), Refusal>
     ensures answer { writing result ≡ write i buffer.old }
     ensures kept { buffer.new ≡ stored i buffer.old }
 {
@@ -44,13 +41,13 @@ pub fn write_buffer(i: Instruction, buffer: &mut [u8]) -> Written
     }
     let w = word_of(v, i);
     match judge_word(w) {
-        Judged::Refused(code) => Written::Refused(refusal_of(code)),
-        Judged::Fits(_) => {
+        Err(code) => Err(refusal_of(code)),
+        Ok(_) => {
             if !is_record(read_number(w), i) {
                 return refused(15);
             }
             store64(w, buffer);
-            Written::Done
+            Ok(())
         }
     }
 }

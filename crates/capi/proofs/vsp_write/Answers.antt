@@ -16,8 +16,8 @@ returns-then-wide c = let all = no_row c.args.form.now c.args.word.now c.if-word
 pub returns-then-padded : goal.returns-then-padded
 returns-then-padded c = let all = not_0 c.args.form.now c.args.word.now c.if-word-ne8.false (subst (λ (x : ℕ). x < row_count) c.wide.ensures.0 c.if-wide.false) (sym c.padded.ensures ∙ c.if-padded.true) in record { answer = all.0; kept = all.1 }
 
-pub returns-in-Done : goal.returns-in-Done
-returns-in-Done c = let all = done c.args.form.now c.args.word.now c.if-word-ne8.false (subst (λ (x : ℕ). x < row_count) c.wide.ensures.0 c.if-wide.false) (sym c.padded.ensures ∙ c.if-padded.false) (ap writing (sym c.in-Done.is) ∙ c.write_word-w.ensures.answer ∙ ap (λ (i : Instruction). write i c.args.word.now) c.instruction_of_form.ensures) (c.write_word-w.ensures.kept ∙ ap (λ (i : Instruction). stored i c.args.word.now) c.instruction_of_form.ensures) in record { answer = all.0; kept = all.1 }
+pub returns-in-Ok : goal.returns-in-Ok
+returns-in-Ok c = let all = done c.args.form.now c.args.word.now c.if-word-ne8.false (subst (λ (x : ℕ). x < row_count) c.wide.ensures.0 c.if-wide.false) (sym c.padded.ensures ∙ c.if-padded.false) (ap writing (sym c.in-Ok.is) ∙ c.write_word-w.ensures.answer ∙ ap (λ (i : Instruction). write i c.args.word.now) c.instruction_of_form.ensures) (c.write_word-w.ensures.kept ∙ ap (λ (i : Instruction). stored i c.args.word.now) c.instruction_of_form.ensures) in record { answer = all.0; kept = all.1 }
 
-pub returns-in-Refused : goal.returns-in-Refused
-returns-in-Refused c = let all = unwritten c.args.form.now c.args.word.now c.if-word-ne8.false (subst (λ (x : ℕ). x < row_count) c.wide.ensures.0 c.if-wide.false) (sym c.padded.ensures ∙ c.if-padded.false) (ap writing (sym c.in-Refused.is) ∙ c.write_word-w.ensures.answer ∙ ap (λ (i : Instruction). write i c.args.word.now) c.instruction_of_form.ensures) c.refusal_code.ensures (c.write_word-w.ensures.kept ∙ ap (λ (i : Instruction). stored i c.args.word.now) c.instruction_of_form.ensures) in record { answer = all.0; kept = all.1 }
+pub returns-in-Err : goal.returns-in-Err
+returns-in-Err c = let all = unwritten c.args.form.now c.args.word.now c.if-word-ne8.false (subst (λ (x : ℕ). x < row_count) c.wide.ensures.0 c.if-wide.false) (sym c.padded.ensures ∙ c.if-padded.false) (ap writing (sym c.in-Err.is) ∙ c.write_word-w.ensures.answer ∙ ap (λ (i : Instruction). write i c.args.word.now) c.instruction_of_form.ensures) c.refusal_code.ensures (c.write_word-w.ensures.kept ∙ ap (λ (i : Instruction). stored i c.args.word.now) c.instruction_of_form.ensures) in record { answer = all.0; kept = all.1 }

@@ -1,6 +1,6 @@
+use Rattle.std.specs.Prelude.{Option, None, Some}
 use mathlib.Core.Path.{◌≡◌, sym, ap, ap₂, ◌∙◌}
 use mathlib.Core.List.{List, [], ◌∷◌}
-use mathlib.Core.Option.{Option, none, some}
 use Prim.Native.Nat.{ℕ, suc, ◌+◌, ◌-◌, ◌<◌, ◌≤◌}
 use native.Mathlib.Nat.{sub-zero}
 use native.Mathlib.Omega.{arith}
@@ -15,7 +15,7 @@ use Rattle.diff.proofs.walk_to.Goals as goal
 
 -- line k of all is a line of what remains
 module _ (all rest : List Line) (k : ℕ) where
-  fewer : (j : ℕ) → kth all k ≡ kth rest j → [] ≡ rest → ◌≡◌ {A = Outcome Unread (Option Line)} (gives none) (gives (kth all k))
+  fewer : (j : ℕ) → kth all k ≡ kth rest j → [] ≡ rest → ◌≡◌ {A = Outcome Unread (Option Line)} (gives None) (gives (kth all k))
   unfolding kth
   fewer j e q = ap gives (sym (e ∙ ap (λ (l : List Line). kth l j) (sym q)))
 
@@ -26,7 +26,7 @@ module _ (all rest : List Line) (k : ℕ) where
         let n : k - i ≡ suc (k - (i + 1)) = omega arith in
         e ∙ ap₂ kth (sym q) n
 
-    arrived : k ≤ i → ◌≡◌ {A = Outcome Unread (Option Line)} (gives (some l)) (gives (kth all k))
+    arrived : k ≤ i → ◌≡◌ {A = Outcome Unread (Option Line)} (gives (Some l)) (gives (kth all k))
     unfolding kth
     arrived h =
         let n : k - i ≡ 0 = omega arith in

@@ -27,8 +27,8 @@ returns-then-not-branches c =
     (c.judge_successor-next.ensures ∙ ap (λ (k : Halves). judge_successor a.n m a.i k (pos (a.i + 1))) c.after-held.ensures)
     (sym c.branches.ensures ∙ c.if-not-branches.true)
 
-pub returns-in-Accepted : goal.returns-in-Accepted
-returns-in-Accepted c =
+pub returns-in-Ok : goal.returns-in-Ok
+returns-in-Ok c =
     let a = c.args in
     let m = annotation_at a.version a.annotations.now in
     let h = after a.version a.x a.before in
@@ -38,19 +38,19 @@ returns-in-Accepted c =
     c.branch_target-j.ensures ∙ ap (λ (y : ℤ). landing a.n (pos (a.i + 1) +ℤ y)) back in
     let t = c.judge_successor.ensures ∙ ap₂ (λ (k : Halves) (l : ℕ). judge_successor a.n m a.i k (pos l)) c.after-held.ensures j
     ∙ lands_same a.n m a.i h z in
-    followed c.in-Accepted.is refl refl
+    followed c.in-Ok.is refl refl
     ∙ at_branch (judge_successor a.n m a.i h) a.x a.i (sym c.ends.ensures ∙ c.if-ends.false)
     (c.judge_successor-next.ensures ∙ ap (λ (k : Halves). judge_successor a.n m a.i k (pos (a.i + 1))) c.after-held.ensures)
     (sym c.branches.ensures ∙ c.if-not-branches.false)
     t
 
-pub returns-in-Refused : goal.returns-in-Refused
-returns-in-Refused c =
+pub returns-in-Err : goal.returns-in-Err
+returns-in-Err c =
     let a = c.args in
     let m = annotation_at a.version a.annotations.now in
     let h = after a.version a.x a.before in
     let z = pos (a.i + 1) +ℤ a.x.offset in
-    halted (judge_successor a.n m a.i h z) c.in-Refused.is refl
+    halted (judge_successor a.n m a.i h z) c.in-Err.is refl
     ∙ at_branch (judge_successor a.n m a.i h) a.x a.i (sym c.ends.ensures ∙ c.if-ends.false)
     (c.judge_successor-next.ensures ∙ ap (λ (k : Halves). judge_successor a.n m a.i k (pos (a.i + 1))) c.after-held.ensures)
     (sym c.branches.ensures ∙ c.if-not-branches.false)

@@ -33,12 +33,12 @@ returns-in-Proposed c =
     let s = subst (λ (o : Outcome Finding ℕ). Swept a.version w a.n c.taken-held.result o c.propose-found.new.out) (ap inference_outcome c.in-Proposed.is) c.propose-found.ensures in
     checked a.version w a.entry a.annotations.now low high p.0 a.n p.1 p.2 c.taken-held.ensures s c.hand_over.ensures
 
-pub returns-in-Refused : goal.returns-in-Refused
-returns-in-Refused c =
+pub returns-in-Err : goal.returns-in-Err
+returns-in-Err c =
     let a = c.args in
     let p = c.requires in
     let low : a.entry.low < 2 ^ 64 = omega (arith, c.well_formed) in
     let high : a.entry.high < 2 ^ 64 = omega (arith, c.well_formed) in
     let w = a.words.now in
-    let s = subst (λ (o : Outcome Finding ℕ). Swept a.version w a.n c.taken-held.result o c.propose-found.new.out) (ap inference_outcome c.in-Refused.is) c.propose-found.ensures in
+    let s = subst (λ (o : Outcome Finding ℕ). Swept a.version w a.n c.taken-held.result o c.propose-found.new.out) (ap inference_outcome c.in-Err.is) c.propose-found.ensures in
     unread a.version w a.entry a.annotations.now low high p.0 a.n p.1 p.2 c.taken-held.ensures s

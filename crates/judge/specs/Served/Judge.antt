@@ -1,5 +1,5 @@
 -- What judging a word finds.
-use Rattle.std.specs.Prelude.{◌≡◌, [], ◌∷◌, ℕ, ◌+◌, ◌*◌, ◌%◌, ◌^◌, ◌<◌}
+use Rattle.std.specs.Prelude.{◌≡◌, [], ◌∷◌, ℕ, ◌+◌, ◌*◌, ◌%◌, ◌^◌, ◌<◌, Err, Ok, Result}
 use Rattle.std.specs.Int.Bits.{bit_and}
 use Rattle.bits.specs.Fields.{bits, choose}
 use Rattle.bits.specs.Outcomes.{gives, refuses}
@@ -16,12 +16,10 @@ use Rattle.lookup.specs.Served.Lines.{line_of}
 use Rattle.lookup.specs.declared.Line.{Line}
 use Rattle.reading.specs.Reader.{read_number}
 use Rattle.judge.specs.declared.Fit.{Fit}
-use Rattle.judge.specs.declared.Judged.{Judged}
-use Rattle.judge.specs.declared.Judged.TheVariants.{Fits, Refused}
 
 -- a refusal as one number, and the refusal that it stands for
-abbrev pub refused : ℕ → ℕ → Judged
-refused n p = Refused (n + 256 * p)
+abbrev pub refused : ℕ → ℕ → Result Fit ℕ
+refused n p = Err (n + 256 * p)
 
 abbrev pub refusal_of : ℕ → Refusal
 refusal_of c = refusal (bits c 0 8) (bits c 8 8)
@@ -48,17 +46,17 @@ pub record Known (k w : ℕ) (f : Fit) : Type 0 where
   pub mask : bits w 46 2 ≡ number_in k w mask_place
 
 -- the judgement is what reading the word gives
-abbrev pub Judges : ℕ → Judged → Type 0
-Judges w (Fits f) = (k : ℕ) × (Known k w f × (read_number w ≡ gives (instruction_of k w)))
-Judges w (Refused c) = read_number w ≡ refuses (refusal_of c)
+abbrev pub Judges : ℕ → (Result Fit ℕ) → Type 0
+Judges w (Ok f) = (k : ℕ) × (Known k w f × (read_number w ≡ gives (instruction_of k w)))
+Judges w (Err c) = read_number w ≡ refuses (refusal_of c)
 
 -- what is known stays, if the four sources are legal on the word's page
-unfoldable pub judged_sources : Fit → ℕ → Judged
+unfoldable pub judged_sources : Fit → ℕ → Result Fit ℕ
 judged_sources f w =
     choose (source_legal (bits w 57 2) (bits f.sources 0 8))
     (choose (source_legal (bits w 57 2) (bits f.sources 8 8))
     (choose (source_legal (bits w 57 2) (bits f.sources 16 8))
-    (choose (source_legal (bits w 57 2) (bits f.sources 24 8)) (Fits f) (refused 7 3))
+    (choose (source_legal (bits w 57 2) (bits f.sources 24 8)) (Ok f) (refused 7 3))
     (refused 7 2))
     (refused 7 1))
     (refused 7 0)

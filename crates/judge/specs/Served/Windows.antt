@@ -1,10 +1,10 @@
 -- Whether the modifiers of a word are legal, asked of a row's limits and pairs.
-use Rattle.std.specs.Prelude.{Bool, true, false, ◌&&◌, not, ℕ, ◌+◌, ◌/◌, eqb}
+use Rattle.std.specs.Prelude.{Bool, true, false, ◌&&◌, not, ℕ, ◌+◌, ◌/◌, eqb, Result}
 use Rattle.std.specs.Int.Bits.{bit_and}
 use Rattle.bits.specs.Fields.{bits, choose}
 use Rattle.bits.specs.Sets.{has}
+use Rattle.judge.specs.declared.Fit.{Fit}
 use Rattle.judge.specs.Served.Judge.{refused}
-use Rattle.judge.specs.declared.Judged.{Judged}
 
 -- the bits of a word that are 1 together with the next one and may not be
 abbrev pub paired : ℕ → ℕ → ℕ
@@ -15,7 +15,7 @@ modifiers_ok limits pairs w =
     choose (has limits (bits w 26 4)) false (choose (has limits (16 + bits w 36 4)) false (eqb (paired pairs w) 0))
 
 -- the refusal of the lowest modifier that is illegal
-abbrev pub refused_modifier : ℕ → ℕ → ℕ → ℕ → Judged
+abbrev pub refused_modifier : ℕ → ℕ → ℕ → ℕ → Result Fit ℕ
 refused_modifier limits widths pairs w =
     choose (eqb (bits (paired pairs w) 8 1) 1) (refused 6 8)
     (choose (has limits (bits (bits w 26 4) 0 (bits widths 16 3))) (refused 6 26)

@@ -1,14 +1,11 @@
 -- Each row as a line of numbers by which a word of it is judged.
-use Rattle.std.specs.Prelude.{◌≡◌, true, List, ℕ, ◌+◌, ◌*◌, ◌%◌, ◌^◌, ◌<◌, get_or}
-use Rattle.std.proofs.Math.Option.{Option, none, some}
+use Rattle.std.specs.Prelude.{◌≡◌, true, List, ℕ, ◌+◌, ◌*◌, ◌%◌, ◌^◌, ◌<◌, get_or, None, Option, Some}
 use Rattle.std.specs.Int.Bits.{bit_or}
 use Rattle.bits.specs.Fields.{bits}
 use Rattle.rows.specs.Rows.{row_of, row_count}
 use Rattle.rows.specs.Layout.{fits}
 use Rattle.rows.specs.Served.Table.{set_of, fixed_bit, fixed, pairs, limits, widths, shape}
 use Rattle.lookup.specs.declared.Line.{Line}
-use Rattle.lookup.specs.declared.Found.{Found}
-use Rattle.lookup.specs.declared.Found.TheVariants.{Line as line, None as no_line}
 
 -- row k's line; past the table's end that of the row that has nothing
 unfoldable pub line_of : ℕ → Line
@@ -22,17 +19,12 @@ line_of k =
       shape = shape (row_of k) + k * 2 ^ 48;
     }
 
--- what the lookup's answer stands for
-abbrev pub line_found : Found → Option Line
-line_found (line l) = some l
-line_found no_line = none
-
 -- `OwnRows` (Opcodes) of a word and the line that was found for it.
 pub record OwnRow (w : ℕ) (found : Option Line) : Type 0 where
   -- it is the line of a row that has the word's opcode, or none
-  pub own : (l : Line) → found ≡ some l → (k : ℕ) × ((k < row_count) × (((row_of k).opcode ≡ bits w 48 9) × (l ≡ line_of k)))
+  pub own : (l : Line) → found ≡ Some l → (k : ℕ) × ((k < row_count) × (((row_of k).opcode ≡ bits w 48 9) × (l ≡ line_of k)))
   -- and the line of the row that fits, if one does
-  pub fitting : (k : ℕ) → k < row_count → fits (row_of k) w ≡ true → found ≡ some (line_of k)
+  pub fitting : (k : ℕ) → k < row_count → fits (row_of k) w ≡ true → found ≡ Some (line_of k)
 
 -- a line from the numbers of a row's line in the table
 abbrev pub line_from : ℕ → List ℕ → Line

@@ -11,4 +11,4 @@ deliver-requires g c = grind (arith, common_steps, answered, noted, fits)
 pub refuse-requires : goal.refuse-requires
 refuse-requires g c =
     let p = c.requires in
-    (p.0, answered p.1 p.2 c.infer-answer.ensures ∙ ap inference_outcome c.in-Refused.is)
+    (p.0, answered p.1 p.2 c.infer-answer.ensures ∙ ap inference_outcome c.in-Err.is)

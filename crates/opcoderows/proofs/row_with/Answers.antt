@@ -1,5 +1,5 @@
+use Rattle.std.specs.Prelude.{Some}
 use mathlib.Core.Path.{◌≡◌, sym, ap, ◌∙◌, subst}
-use mathlib.Core.Option.{some}
 use Prim.Native.Nat.{ℕ, ◌+◌, ◌<◌, ◌≤◌}
 use native.Mathlib.Omega.{arith}
 use Rattle.rows.specs.Rows.{row_count}
@@ -36,5 +36,5 @@ pub returns : goal.returns
 returns c =
     let a = c.args in
     let e = found a.opcode c.slot_of.ensures c.run_at-run.ensures in
-    ap some (c.row_in.ensures ∙ ap (λ (c : Run). row_in (c.first + a.k)) e)
+    ap Some (c.row_in.ensures ∙ ap (λ (c : Run). row_in (c.first + a.k)) e)
     ∙ sym (run_in a.opcode a.k (subst (λ (c : Run). a.k < c.count) e c.if-run-k.false))

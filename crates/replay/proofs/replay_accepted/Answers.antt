@@ -26,14 +26,14 @@ run-requires c =
     let f = c.requires.safe.0 in
     ready a.bytes.now f (words_contents a.bytes c.words-w.result c.words-w.ensures f.opens) c.requires.safe.1 c.decode-program.ensures
 
-pub returns-in-Accepted : goal.returns-in-Accepted
-returns-in-Accepted c =
+pub returns-in-Ok : goal.returns-in-Ok
+returns-in-Ok c =
     let a = c.args in
-    let r = ran (asked a.bytes.now a.registers.now a.uniforms.now a.trace.now a.limit) c.requires.accepted c.requires.whole (ap verdict_outcome (sym c.in-Accepted.is) ∙ c.first_fault-v.ensures) c.run.ensures.answer c.run.ensures.left in
+    let r = ran (asked a.bytes.now a.registers.now a.uniforms.now a.trace.now a.limit) c.requires.accepted c.requires.whole (ap verdict_outcome (sym c.in-Ok.is) ∙ c.first_fault-v.ensures) c.run.ensures.answer c.run.ensures.left in
     record { answer = r.answer; left = r.registers }
 
-pub returns-in-Refused : goal.returns-in-Refused
-returns-in-Refused c =
+pub returns-in-Err : goal.returns-in-Err
+returns-in-Err c =
     let a = c.args in
-    let r = by_fault (asked a.bytes.now a.registers.now a.uniforms.now a.trace.now a.limit) c.requires.accepted c.requires.whole (ap verdict_outcome (sym c.in-Refused.is) ∙ c.first_fault-v.ensures) in
+    let r = by_fault (asked a.bytes.now a.registers.now a.uniforms.now a.trace.now a.limit) c.requires.accepted c.requires.whole (ap verdict_outcome (sym c.in-Err.is) ∙ c.first_fault-v.ensures) in
     record { answer = r.answer; left = r.registers }

@@ -3,12 +3,12 @@ use Rattle.text.proofs.TextLaws.{same_text}
 use Rattle.show.proofs.ShowLaws.{shown_opened, shown_refused}
 use Rattle.show.proofs.put_shown.Goals as goal
 
-pub returns-in-Opened : goal.returns-in-Opened
-returns-in-Opened c =
+pub returns-in-Ok : goal.returns-in-Ok
+returns-in-Ok c =
     let s = c.args.bytes.now in
-    same_text (shown_opened s (opened_by c.open-o.ensures c.in-Opened.is) c.verify-v.ensures.verdict) c.put_opened.ensures
+    same_text (shown_opened s (opened_by c.open-o.ensures c.in-Ok.is) c.verify-v.ensures.verdict) c.put_opened.ensures
 
-pub returns-in-Refused : goal.returns-in-Refused
-returns-in-Refused c =
+pub returns-in-Err : goal.returns-in-Err
+returns-in-Err c =
     let s = c.args.bytes.now in
-    same_text (shown_refused s (refused_by c.open-o.ensures c.in-Refused.is) c.verify-v.ensures.verdict) c.put_verdict.ensures.0
+    same_text (shown_refused s (refused_by c.open-o.ensures c.in-Err.is) c.verify-v.ensures.verdict) c.put_verdict.ensures.0

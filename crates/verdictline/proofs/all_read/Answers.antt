@@ -1,13 +1,13 @@
+use Rattle.std.specs.Prelude.{Result}
 use mathlib.Core.Path.{sym, ap}
-use Rattle.safety.specs.declared.verdict.Verdict.{Verdict}
 use Rattle.safety.specs.Verdict.{verdict_outcome}
 use Rattle.verdictline.specs.VerdictLine.{lists}
 use Rattle.verdictline.proofs.all_read.Goals as goal
 
-pub returns-in-Accepted : goal.returns-in-Accepted
+pub returns-in-Ok : goal.returns-in-Ok
 unfolding lists
-returns-in-Accepted c = sym (ap (λ (v : Verdict). lists (verdict_outcome v)) c.in-Accepted.is)
+returns-in-Ok c = sym (ap (λ (v : (Result (Unit {0}) Finding)). lists (verdict_outcome v)) c.in-Ok.is)
 
-pub returns-in-Refused : goal.returns-in-Refused
+pub returns-in-Err : goal.returns-in-Err
 unfolding lists
-returns-in-Refused c = sym (ap (λ (v : Verdict). lists (verdict_outcome v)) c.in-Refused.is)
+returns-in-Err c = sym (ap (λ (v : (Result (Unit {0}) Finding)). lists (verdict_outcome v)) c.in-Err.is)

@@ -1,11 +1,11 @@
-use mathlib.Core.Path.{◌≡◌, refl}
+use mathlib.Core.Path.{◌≡◌, refl, ap, ◌∙◌}
 use Prim.Native.Nat.{ℕ}
 use native.Mathlib.Omega.{arith}
-use Rattle.bits.specs.Outcomes.{gives, passes, first}
+use Rattle.bits.specs.Outcomes.{gives, refuses, passes, first}
 use Rattle.container.specs.Container.{words_of, annotations_of}
 use Rattle.container.specs.Opening.{open_outcome}
 use Rattle.container.proofs.OpeningLaws.{opened_by, refused_by, words_contents}
-use Rattle.safety.specs.Verdict.{Judgement}
+use Rattle.safety.specs.Verdict.{Judgement, plain}
 use Rattle.safety.proofs.PassLaws.{unopened_read, worded, opened_read}
 use Rattle.verifier.proofs.read_all.Goals as goal
 
@@ -15,18 +15,18 @@ none_before f = refl
 
 pub read_from-requires : goal.read_from-requires
 read_from-requires c =
-    let opens : open_outcome c.args.bytes.now ≡ gives c.in-Opened.header = opened_by c.open.ensures c.in-Opened.is in
+    let opens : open_outcome c.args.bytes.now ≡ gives c.in-Ok.header = opened_by c.open.ensures c.in-Ok.is in
     let are_words : c.words.result.now ≡ words_of c.args.bytes.now = words_contents c.args.bytes c.words.result c.words.ensures (opens) in
     let s = c.args.bytes.now in
-    (worded s c.words.result.now (annotations_of s) c.in-Opened.header (opens) (are_words) refl, omega arith, none_before _)
+    (worded s c.words.result.now (annotations_of s) c.in-Ok.header (opens) (are_words) refl, omega arith, none_before _)
 
-pub returns-in-Opened : goal.returns-in-Opened
-returns-in-Opened c =
-    let opens : open_outcome c.args.bytes.now ≡ gives c.in-Opened.header = opened_by c.open.ensures c.in-Opened.is in
+pub returns-in-Ok : goal.returns-in-Ok
+returns-in-Ok c =
+    let opens : open_outcome c.args.bytes.now ≡ gives c.in-Ok.header = opened_by c.open.ensures c.in-Ok.is in
     let are_words : c.words.result.now ≡ words_of c.args.bytes.now = words_contents c.args.bytes c.words.result c.words.ensures (opens) in
     let s = c.args.bytes.now in
-    opened_read s c.words.result.now (annotations_of s) c.in-Opened.header (opens) (are_words) refl c.read_from.ensures
+    opened_read s c.words.result.now (annotations_of s) c.in-Ok.header (opens) (are_words) refl c.read_from.ensures
 
-pub returns-in-Refused : goal.returns-in-Refused
-returns-in-Refused c =
-    unopened_read c.args.bytes.now (refused_by c.open.ensures c.in-Refused.is) c.refused.ensures
+pub returns-in-Err : goal.returns-in-Err
+returns-in-Err c =
+    unopened_read c.args.bytes.now (refused_by c.open.ensures c.in-Err.is) (c.refused.ensures ∙ ap (λ (k : ℕ). refuses (plain k 0 0)) c.number.ensures)

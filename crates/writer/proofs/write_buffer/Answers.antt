@@ -33,15 +33,15 @@ pub returns-then-not-is_record : goal.returns-then-not-is_record
 returns-then-not-is_record c =
     let i = c.args.i in
     let bs = c.args.buffer.now in
-    let e = unread i bs c.if-buffer-ne8.false (omega (arith, c.if-i-ge-ROWS.false)) c.numbers_fit.ensures (c.if-not-numbers_fit.false) c.word_of-w.ensures refl (subst (Judges c.word_of-w.result) c.in-Fits.is c.judge_word.ensures).1.1 (c.is_record.ensures ∙ ap (λ (o : Outcome Refusal Instruction). is_record o i) c.read_number.ensures) (c.if-not-is_record.true) in
+    let e = unread i bs c.if-buffer-ne8.false (omega (arith, c.if-i-ge-ROWS.false)) c.numbers_fit.ensures (c.if-not-numbers_fit.false) c.word_of-w.ensures refl (subst (Judges c.word_of-w.result) c.in-Ok.is c.judge_word.ensures).1.1 (c.is_record.ensures ∙ ap (λ (o : Outcome Refusal Instruction). is_record o i) c.read_number.ensures) (c.if-not-is_record.true) in
     record { answer = c.refused-then-not-is_record.ensures ∙ e.0; kept = e.1 }
 
-pub returns-in-Refused : goal.returns-in-Refused
-returns-in-Refused c = let all = declined c.args.i c.args.buffer.now c.if-buffer-ne8.false (omega (arith, c.if-i-ge-ROWS.false)) c.numbers_fit.ensures (c.if-not-numbers_fit.false) c.word_of-w.ensures refl
-    (subst (Judges c.word_of-w.result) c.in-Refused.is c.judge_word.ensures ∙ ap refuses (sym c.refusal_of.ensures)) in record { answer = all.0; kept = all.1 }
+pub returns-in-Err : goal.returns-in-Err
+returns-in-Err c = let all = declined c.args.i c.args.buffer.now c.if-buffer-ne8.false (omega (arith, c.if-i-ge-ROWS.false)) c.numbers_fit.ensures (c.if-not-numbers_fit.false) c.word_of-w.ensures refl
+    (subst (Judges c.word_of-w.result) c.in-Err.is c.judge_word.ensures ∙ ap refuses (sym c.refusal_of.ensures)) in record { answer = all.0; kept = all.1 }
 
 pub returns-else-not-is_record : goal.returns-else-not-is_record
 returns-else-not-is_record c =
     let i = c.args.i in
     let bs = c.args.buffer.now in
-    let all = done i bs c.if-buffer-ne8.false (omega (arith, c.if-i-ge-ROWS.false)) c.numbers_fit.ensures (c.if-not-numbers_fit.false) c.word_of-w.ensures refl (subst (Judges c.word_of-w.result) c.in-Fits.is c.judge_word.ensures).1.1 (c.is_record.ensures ∙ ap (λ (o : Outcome Refusal Instruction). is_record o i) c.read_number.ensures) (c.if-not-is_record.false) c.store64.ensures in record { answer = all.0; kept = all.1 }
+    let all = done i bs c.if-buffer-ne8.false (omega (arith, c.if-i-ge-ROWS.false)) c.numbers_fit.ensures (c.if-not-numbers_fit.false) c.word_of-w.ensures refl (subst (Judges c.word_of-w.result) c.in-Ok.is c.judge_word.ensures).1.1 (c.is_record.ensures ∙ ap (λ (o : Outcome Refusal Instruction). is_record o i) c.read_number.ensures) (c.if-not-is_record.false) c.store64.ensures in record { answer = all.0; kept = all.1 }

@@ -21,5 +21,5 @@ nop_contents : replicate 22 0 ≡ contents (default_instruction 0)
 unfolding contents rows modifier_at
 nop_contents = refl
 
-pub returns-in-Refused : goal.returns-in-Refused
-returns-in-Refused c = nop_contents ∙ ap in_reading (ap reading (sym c.in-Refused.is) ∙ c.read_number.ensures)
+pub returns-in-Err : goal.returns-in-Err
+returns-in-Err c = nop_contents ∙ ap in_reading (ap reading (sym c.in-Err.is) ∙ c.read_number.ensures)

@@ -15,12 +15,12 @@ loop-i-init c =
     let a = c.args in
     (search rules, search rules, search rules, refl, planned_none a.version a.words.now a.n lower _ _ _ _, planned_none a.version a.words.now a.n upper _ _ _ _)
 
-pub returns-in-Refused : goal.returns-in-Refused
-returns-in-Refused c =
+pub returns-in-Err : goal.returns-in-Err
+returns-in-Err c =
     let a = c.args in
     let l = c.loop-i in
     record {
-      outcome = one_unread a.words.now l.invariant.3 c.loop-i-test.true (ap reading (sym c.in-Refused.is) ∙ c.reading_at-r.ensures) c.refused.ensures;
+      outcome = one_unread a.words.now l.invariant.3 c.loop-i-test.true (ap reading (sym c.in-Err.is) ∙ c.reading_at-r.ensures) c.refused.ensures;
       plan = λ q. never (sym c.refused.ensures ∙ q);
     }
 
@@ -29,7 +29,7 @@ loop-i-preserved c =
     let a = c.args in
     let l = c.loop-i in
     let t = c.loop-i-test.true in
-    let e = ap reading (sym c.in-Read.is) ∙ c.reading_at-r.ensures in (
+    let e = ap reading (sym c.in-Ok.is) ∙ c.reading_at-r.ensures in (
       search rules,
       sized_set l.i _ _ _ _ l.invariant.1,
       length-set l.highs l.i _ ∙ l.invariant.2,

@@ -4,5 +4,5 @@ use native.Mathlib.Omega.{arith}
 use Rattle.safety.specs.Verdict.{verdict_outcome}
 use Rattle.verdicttext.proofs.words.put_fault.Goals as goal
 
-pub returns-in-Accepted : goal.returns-in-Accepted
-returns-in-Accepted c = (no_fault (sym (ap verdict_outcome c.in-Accepted.is)) c.args.out.now, omega arith)
+pub returns-in-Ok : goal.returns-in-Ok
+returns-in-Ok c = (no_fault (sym (ap verdict_outcome c.in-Ok.is)) c.args.out.now, omega arith)

@@ -6,6 +6,6 @@ use Rattle.text.proofs.TextLaws.{same_text}
 use Rattle.verdicttext.specs.Words.{verdict_text}
 use Rattle.verdicttext.proofs.words.put_verdict.Goals as goal
 
-pub returns-in-Accepted : goal.returns-in-Accepted
+pub returns-in-Ok : goal.returns-in-Ok
 unfolding ascii verdict_text
-returns-in-Accepted c = (same_text (sym (ap (λ v. verdict_text (verdict_outcome v)) c.in-Accepted.is)) c.put_text.ensures, omega (arith, c.put_text.ensures.counts))
+returns-in-Ok c = (same_text (sym (ap (λ v. verdict_text (verdict_outcome v)) c.in-Ok.is)) c.put_text.ensures, omega (arith, c.put_text.ensures.counts))

@@ -11,12 +11,12 @@ pub unreadable_from-requires : goal.unreadable_from-requires
 unfolding first
 unreadable_from-requires c = (c.requires.0, search rules, refl)
 
-pub returns-in-Accepted : goal.returns-in-Accepted
-returns-in-Accepted c =
+pub returns-in-Ok : goal.returns-in-Ok
+returns-in-Ok c =
     let a = c.args in
-    entered a.words.now (program_in a.version a.words.now a.annotations.now a.n a.entry) (c.none_missing-v.ensures ∙ ap (λ (x : Halves). none_missing 23 0 x c.args.entry) c.annotation_at-first.ensures) (ap verdict_outcome c.in-Accepted.is) c.judge_instructions.ensures
+    entered a.words.now (program_in a.version a.words.now a.annotations.now a.n a.entry) (c.none_missing-v.ensures ∙ ap (λ (x : Halves). none_missing 23 0 x c.args.entry) c.annotation_at-first.ensures) (ap verdict_outcome c.in-Ok.is) c.judge_instructions.ensures
 
-pub returns-in-Refused : goal.returns-in-Refused
-returns-in-Refused c =
+pub returns-in-Err : goal.returns-in-Err
+returns-in-Err c =
     let a = c.args in
-    barred a.words.now (program_in a.version a.words.now a.annotations.now a.n a.entry) (c.none_missing-v.ensures ∙ ap (λ (x : Halves). none_missing 23 0 x c.args.entry) c.annotation_at-first.ensures) (ap verdict_outcome c.in-Refused.is) c.unreadable_from.ensures
+    barred a.words.now (program_in a.version a.words.now a.annotations.now a.n a.entry) (c.none_missing-v.ensures ∙ ap (λ (x : Halves). none_missing 23 0 x c.args.entry) c.annotation_at-first.ensures) (ap verdict_outcome c.in-Err.is) c.unreadable_from.ensures
