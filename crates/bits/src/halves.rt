@@ -5,7 +5,7 @@ ghost use Rattle.bits.specs.Halves.{both, either, minus_halves};
 use crate::sets::missing;
 
 // The registers whose low half is in the set, and those whose high half is.
-#[derive(Clone, Copy)]
+#[derive(Clone, Copy, Debug, PartialEq, Eq)]
 pub struct Halves {
     pub low: u64,
     pub high: u64,

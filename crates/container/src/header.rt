@@ -17,7 +17,7 @@ const ENTRY: usize = 8;
 const FEWEST: usize = 1;
 
 // The version, how many instructions there are, and the entry set: the halves of registers that are defined before the first.
-#[derive(Clone, Copy)]
+#[derive(Clone, Copy, Debug, PartialEq, Eq)]
 pub struct Header {
     pub version: u64,
     pub count: usize,

@@ -8,7 +8,7 @@ use rows::table;
 pub const MODIFIERS: usize = 14;
 
 // The source bytes.
-#[derive(Clone, Copy)]
+#[derive(Clone, Copy, Debug, PartialEq, Eq)]
 pub struct Sources {
     pub s0: u8,
     pub s1: u8,
@@ -17,7 +17,7 @@ pub struct Sources {
 }
 
 // The modifiers, each named by its lowest bit.
-#[derive(Clone, Copy)]
+#[derive(Clone, Copy, Debug, PartialEq, Eq)]
 pub struct Modifiers {
     pub m8: u8,
     pub m10: u8,
@@ -36,7 +36,7 @@ pub struct Modifiers {
 }
 
 // A decoded instruction (the paper's record). Places that its row does not use are 0.
-#[derive(Clone, Copy)]
+#[derive(Clone, Copy, Debug, PartialEq, Eq)]
 pub struct Instruction {
     pub row: u8,
     pub page: u8,
