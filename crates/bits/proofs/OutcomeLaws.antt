@@ -1,10 +1,26 @@
 -- Laws of outcomes, and what holds of every refusal of one. Assumes nothing.
-use mathlib.Core.Path.{◌≡◌, refl, sym, ap, subst}
+use mathlib.Core.Path.{◌≡◌, refl, sym, ap, subst, ◌∙◌}
 use mathlib.Core.Bool.{Bool, true, false}
 use mathlib.Core.Logic.{◌⊎◌, inl, inr}
 use Prim.Native.Nat.{ℕ, ◌≤◌}
 use native.Mathlib.Omega.{arith}
+use Rattle.std.specs.Prelude.{Result, Ok, Err, IsErrAnd}
+use Rattle.std.specs.Result.{IsErr}
+use Rattle.std.proofs.lemmas.Result.{err_from_is_err_and}
 use Rattle.bits.specs.Outcomes.{Outcome, gives, refuses, passes, require, ◌then◌}
+
+-- what is returned where a `?` leaves: the refusal that it met, and the whole is that refusal, or goes on
+module _ {R A : Type 0} where
+  pub left_by : (r : Result A R) {f : R} → IsErr r × IsErrAnd r (λ g. g ≡ f) → r ≡ Err f
+  left_by r e = let p = err_from_is_err_and r e.1 in p.1 ∙ ap Err p.2
+
+  pub stops : {a : Outcome R (Unit {0})} (b : Outcome R A) {r : R} → refuses r ≡ a → (a then b) ≡ refuses r
+  unfolding ◌then◌
+  stops b e = rw (← e) refl
+
+  pub goes_on : {a : Outcome R (Unit {0})} (b : Outcome R A) → passes ≡ a → (a then b) ≡ b
+  unfolding ◌then◌
+  goes_on b e = rw (← e) refl
 
 module _ {R A : Type 0} where
   -- a refusal gives nothing

@@ -3,12 +3,17 @@
 -- list has fewer, or the whole list (02, Item 4), or what stopped a replay, and after how many steps (02, Item 8); or it refuses, and then
 -- with a single number: the one whose turn comes first (01, Numbers given back), of which a comparison says whose it is. The call for the
 -- rows of an opcode refuses nothing: it gives a row or says that there is none (02, Item 3).
-use Rattle.std.specs.Prelude.{Bool, true, false, List, [], ◌∷◌, ℕ, zero, suc}
+use Rattle.std.specs.Prelude.{Bool, true, false, List, [], ◌∷◌, ℕ, zero, suc, Result, Ok, Err}
 
 -- what a call ends with: a value, or a refusal. R says what a refusal tells: its number, and with it a place, or more.
 pub data Outcome (R A : Type 0) : Type 0 where
   gives : A → Outcome R A
   refuses : R → Outcome R A
+
+-- what a `Result` of the code stands for
+abbrev pub outcome : {R A : Type 0} → Result A R → Outcome R A
+outcome (Ok a) = gives a
+outcome (Err r) = refuses r
 
 -- a test that passes has nothing to give
 abbrev pub passes : {R : Type 0} → Outcome R (Unit {0})

@@ -1,6 +1,6 @@
 -- What the answers mean: for each case the number and the values that it stands for (01, Numbers given back).
-use Rattle.std.specs.Prelude.{ℕ, Err, Ok, Result}
-use Rattle.bits.specs.Outcomes.{Outcome, gives, refuses}
+use Rattle.std.specs.Prelude.{ℕ, Result}
+use Rattle.bits.specs.Outcomes.{Outcome, outcome}
 use Rattle.record.specs.declared.instruction.Instruction.{Instruction}
 use Rattle.record.specs.declared.answer.Refusal.{Refusal}
 
@@ -10,5 +10,4 @@ refusal n p = record { number = n; place = p }
 
 -- the fresh record, or the refusal
 abbrev pub making : Result Instruction Refusal → Outcome Refusal Instruction
-making (Ok i) = gives i
-making (Err f) = refuses f
+making r = outcome r

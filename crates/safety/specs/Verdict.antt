@@ -1,12 +1,12 @@
 -- The verdict (the paper's check), with the refusals in the order of 01, Numbers given back: opening, the lowest word that does not read,
 -- 23, and then for each instruction 20, and 21 and 22 for the fall-through and after it for the branch target. Of registers it goes by
 -- halves (02, Item 7).
-use Rattle.std.specs.Prelude.{List, ℕ, eqb, ltb, ℤ, pos, negsuc, Err, Ok, Result}
+use Rattle.std.specs.Prelude.{List, ℕ, eqb, ltb, ℤ, pos, negsuc, Result}
 use Rattle.bits.specs.Fields.{choose}
 use Rattle.bits.specs.Sets.{has, lowest}
 use Rattle.bits.specs.Halves.{Half, lower, upper, both, either, minus_halves}
 use Rattle.bits.specs.declared.halves.Halves.{Halves}
-use Rattle.bits.specs.Outcomes.{Outcome, gives, refuses, passes, require, ◌then◌, first, each}
+use Rattle.bits.specs.Outcomes.{Outcome, outcome, gives, refuses, passes, require, ◌then◌, first, each}
 use Rattle.record.specs.declared.instruction.Instruction.{Instruction}
 use Rattle.record.specs.declared.answer.Refusal.{Refusal}
 use Rattle.reading.specs.Reader.{read}
@@ -36,8 +36,7 @@ plain n p i = finding n p i no_register Neither
 
 -- the judgement that each verdict stands for
 abbrev pub verdict_outcome : Result (Unit {0}) Finding → Judgement
-verdict_outcome (Ok tt) = passes
-verdict_outcome (Err f) = refuses f
+verdict_outcome v = outcome v
 
 -- a container that does not open: index 0
 abbrev pub judge_opening : Outcome Rejection Header → Judgement
