@@ -30,16 +30,13 @@ use disasm::put_instruction;
 use form::{form_of, instruction_of_form, padded};
 use infer::infer;
 use opcoderows::row_with;
-
-
+use reasons::Reason;
 use record::instruction::Instruction;
 use replay::{Replayed, replay};
 use replaycode::stop_code;
-use safety::verdict::Verdict;
 use sweeps::answer::Inference;
 use text::name::put_name;
 use verifier::verify;
-
 
 // Room for any text and any name, with the 0 after it: VSP_TEXT and VSP_NAME of the header.
 pub const TEXT: usize = 534;
@@ -51,10 +48,9 @@ pub fn vsp_check(container: &[u8]) -> u64
     ensures answer { result ≡ verdict_code (verdict_of container.now) }
     ensures demand { Demand3At container.now (result ≡ 0) }
 {
-    let v = verify(container);
-    match v {
+    match verify(container) {
         Ok(()) => 0,
-        Err(f) => finding_code(f),
+        Err(finding) => finding_code(finding),
     }
 }
 
@@ -126,8 +122,7 @@ pub fn vsp_read(word: &[u8], form: &mut [u8; 32]) -> u32
     ensures answer { result ≡ outcome_code (read word.now) }
     ensures kept { form.new ≡ form_after (read word.now) form.old }
 {
-    let r = read_word(word);
-    match r {
+    match read_word(word) {
         Ok(i) => {
             *form = form_of(i);
             0
@@ -142,20 +137,19 @@ pub fn vsp_write(form: &[u8; 32], word: &mut [u8]) -> u32
     ensures kept { word.new ≡ word_after form.now word.old }
 {
     if word.len() != 8 {
-        return 8;
+        return Reason::RoomLength as u32;
     }
     let f = *form;
     if Instruction::ROWS as u64 <= wide(f[0]) {
-        return 2;
+        return Reason::NoRow as u32;
     }
     if padded(f) {
-        return 9;
+        return Reason::NoRoom as u32;
     }
-    let w = write_word(instruction_of_form(f), word);
-    match w {
-        Ok(()) => 0,
-        Err(r) => refusal_code(r),
+    if let Err(unwritten) = write_word(instruction_of_form(f), word) {
+        return refusal_code(unwritten);
     }
+    0
 }
 
 // Makes a row's default in a form: 0, or the refusal as one number, and then the form keeps its bytes.
@@ -163,13 +157,12 @@ pub fn vsp_fresh(row: usize, form: &mut [u8; 32]) -> u32
     ensures answer { result ≡ outcome_code (fresh row) }
     ensures kept { form.new ≡ form_after (fresh row) form.old }
 {
-    let a = Instruction::fresh(row);
-    match a {
-        Ok(i) => {
-            *form = form_of(i);
+    match Instruction::fresh(row) {
+        Ok(made) => {
+            *form = form_of(made);
             0
         }
-        Err(f) => refusal_code(f),
+        Err(refusal) => refusal_code(refusal),
     }
 }
 
@@ -177,9 +170,8 @@ pub fn vsp_fresh(row: usize, form: &mut [u8; 32]) -> u32
 pub fn vsp_row_of(opcode: u64, k: u64) -> u32
     ensures { result ≡ row_code (row_with opcode k) }
 {
-    let found = row_with(opcode, k);
-    match found {
-        Some(row) => row as u32,
+    match row_with(opcode, k) {
+        Some(row) => u32::from(row),
         None => 255,
     }
 }
