@@ -6,9 +6,10 @@ use native.Mathlib.Nat.{add-zero, div-div-eq-div-mul, le_of_eq, pow-suc, mul_com
 use native.Mathlib.Numerals.{add-one}
 use native.Mathlib.Omega.{arith}
 use lib.Dec.{T, ltb, ltb→lt, lt→ltb}
-use lib.ListN.{length, get_or, take, drop, set, drop_of_length-le}
+use lib.ListN.{length, get_or, take, drop, drop_of_length-le}
 use lib.Pow.{are_bytes}
-use lib.Seq.{drop-cons, drop-length, get_or-drop, drop-drop}
+use lib.Seq.{get_or-drop, drop-drop}
+use Rattle.std.specs.Int.{w64, from_le_bytes, to_le_bytes}
 use Rattle.bits.specs.Bytes.{little, little_bytes}
 use Rattle.bits.proofs.Every.{and_both, and_l, and_r}
 
@@ -86,23 +87,14 @@ number_bytes zero w = tt
 number_bytes (suc n) w =
     and_both (ltb (w % 256) 256) (are_bytes (little_bytes n (w / 256))) (lt→ltb (w % 256) 256 (omega arith)) (number_bytes n (w / 256))
 
--- n elements of a list, from i on
-abbrev pub elements : ℕ → ℕ → List ℕ → List ℕ
-elements zero i xs = []
-elements (suc n) i xs = get_or xs i 0 ∷ elements n (suc i) xs
-
-pub drop_elements : (n i : ℕ) (xs : List ℕ) → length xs ≡ i + n → drop i xs ≡ elements n i xs
-drop_elements zero i xs e = rw (← add-zero i, ← e) (drop-length xs)
-drop_elements (suc n) i xs e =
-    drop-cons xs i 0 (omega arith) ∙ ap (λ (l : List ℕ). get_or xs i 0 ∷ l) (drop_elements n (suc i) xs (omega arith))
-
--- eight stores over eight bytes
-pub stored_eight : (xs : List ℕ) → length xs ≡ 8 → (a b c d e f g h : ℕ)
-    → set (set (set (set (set (set (set (set xs 0 a) 1 b) 2 c) 3 d) 4 e) 5 f) 6 g) 7 h ≡ a ∷ b ∷ c ∷ d ∷ e ∷ f ∷ g ∷ h ∷ []
-stored_eight xs l a b c d e f g h =
-    ap (λ (ys : List ℕ). set (set (set (set (set (set (set (set ys 0 a) 1 b) 2 c) 3 d) 4 e) 5 f) 6 g) 7 h) (drop_elements 8 0 xs l)
-
-pub bytes_eight : (w : ℕ) → w % 256 ∷ w / 256 % 256 ∷ w / 65536 % 256 ∷ w / 16777216 % 256 ∷ w / 4294967296 % 256 ∷ w / 1099511627776 % 256
+bytes_eight : (w : ℕ) → w % 256 ∷ w / 256 % 256 ∷ w / 65536 % 256 ∷ w / 16777216 % 256 ∷ w / 4294967296 % 256 ∷ w / 1099511627776 % 256
     ∷ w / 281474976710656 % 256 ∷ w / 72057594037927936 % 256 ∷ [] ≡ little_bytes 8 w
 unfolding little_bytes
 bytes_eight w = simp div-div-eq-div-mul
+
+-- eight bytes as the library reads and writes them
+pub load_eight : (b : List ℕ) {n : ℕ} → length b ≡ 8 → n ≡ from_le_bytes w64 b → n ≡ little b
+load_eight b h e = omega (arith, little_eight b h, e)
+
+pub store_eight : (w : ℕ) → to_le_bytes w64 w ≡ little_bytes 8 w
+store_eight w = bytes_eight w

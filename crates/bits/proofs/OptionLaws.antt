@@ -1,7 +1,7 @@
 -- That `Some` tells what it holds, and is not `None`.
 use mathlib.Core.Path.{◌≡◌, sym}
 use native.Mathlib.Omega.{arith}
-use Rattle.std.specs.Prelude.{Option, Some, None}
+use Rattle.std.specs.Prelude.{Some, None}
 
 pub Some-injective : {A : Type 0} (x y : A) → Some x ≡ Some y → x ≡ y
 Some-injective x y e = grind arith

@@ -29,7 +29,8 @@ pub fn either(s: Halves) -> u64
 pub fn missing_halves(a: Halves, b: Halves) -> Halves
     ensures { result ≡ minus_halves a b }
 {
-    let low = missing(a.low, b.low);
-    let high = missing(a.high, b.high);
-    Halves { low, high }
+    Halves {
+        low: missing(a.low, b.low),
+        high: missing(a.high, b.high),
+    }
 }

@@ -41,12 +41,12 @@ fn line_with(row: u64, v: table::Row) -> Line
     ensures { result ≡ line_from row v }
 {
     Line {
-        fixed_bits: v[2],
-        fixed: v[0] << 48 | v[1] << bits_at(v[3], 33, 6),
-        pairs: v[6],
-        limits: v[5],
-        modifiers: v[4],
-        shape: v[3] | row << 48,
+        fixed_bits: v.fixed_bits,
+        fixed: v.opcode << 48 | v.second << bits_at(v.shape, 33, 6),
+        pairs: v.pairs,
+        limits: v.limits,
+        modifiers: v.modifiers,
+        shape: v.shape | row << 48,
     }
 }
 

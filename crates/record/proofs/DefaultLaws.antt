@@ -6,7 +6,7 @@ use Prim.Native.Nat.{ℕ, ◌-◌, ◌*◌, ◌/◌, ◌^◌, ◌<◌}
 use lib.Dec.{T, eqb, ltb, eqb→eq, ltb→lt}
 use borrow.Author.Tests.{ltb-true}
 use Rattle.bits.specs.Fields.{bits}
-use Rattle.bits.specs.Outcomes.{Outcome, gives, require, ◌then◌}
+use Rattle.bits.specs.Outcomes.{Outcome, gives, require}
 use Rattle.bits.proofs.OutcomeLaws.{then_gives, required}
 use Rattle.bits.proofs.Every.{every, at, and_l, and_r, alike, alike_eq}
 use Rattle.rows.specs.Kinds.{about}

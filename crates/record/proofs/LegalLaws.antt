@@ -10,7 +10,7 @@ use lib.ListN.{length, get_or}
 use borrow.Author.Tests.{lt-ltb, ltb-true, leb-true}
 use Rattle.bits.specs.Fields.{choose}
 use Rattle.bits.specs.Outcomes.{passes, require, ◌then◌}
-use Rattle.bits.proofs.Every.{every, at, clash, and_l, and_r}
+use Rattle.bits.proofs.Every.{every, clash, and_l, and_r}
 use Rattle.bits.proofs.OutcomeLaws.{then_gives, required}
 use Rattle.rows.specs.Kinds.{Range, about, width, within, flow, legal_value}
 use Rattle.rows.specs.Sources.{source_legal}

@@ -234,13 +234,14 @@ module _ (i : Instruction) where
     unfolding defines
     full_write h = rw (d, eq-eqb i.half_mask 3 h)
 
--- the halves that are written
-module _ (i : Instruction) where
-  pub no_halves : (row_of i.row).destination ≡ false → halves 0 0 ≡ writes i
-  unfolding writes
-  no_halves e = rw e
+-- the halves that are written: of the destination, if there is one, those in the mask
+within : (d m : Bool) (s : ℕ) → choose m (choose d s 0) 0 ≡ choose (d && m) s 0
+within true m s = refl
+within false true s = refl
+within false false s = refl
 
-  pub halves_written : (row_of i.row).destination ≡ true → {low high : ℕ} → low ≡ choose (masked lower i.half_mask) (single i.register) 0
-      → high ≡ choose (masked upper i.half_mask) (single i.register) 0 → halves low high ≡ writes i
-  unfolding writes
-  halves_written d p q = rw (p, q, d)
+pub halves_written : (i : Instruction) {s low high : ℕ} → s ≡ choose (row_of i.row).destination (single i.register) 0
+    → low ≡ choose (masked lower i.half_mask) s 0 → high ≡ choose (masked upper i.half_mask) s 0 → halves low high ≡ writes i
+unfolding writes
+halves_written i e p q =
+    rw (p, q, e, within (row_of i.row).destination (masked lower i.half_mask) (single i.register), within (row_of i.row).destination (masked upper i.half_mask) (single i.register))

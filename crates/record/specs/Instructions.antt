@@ -1,5 +1,5 @@
 -- Decoded instructions (the paper's records) and the numbers of their words (01, The 77 rows, last part).
-use Rattle.std.specs.Prelude.{List, [], ◌∷◌, map, ℕ, eqb, ℤ, get_or}
+use Rattle.std.specs.Prelude.{List, map, ℕ, eqb, ℤ, get_or}
 use Rattle.bits.specs.Fields.{bits, choose, join}
 use Rattle.bits.specs.Signed.{unsigned, signed}
 use Rattle.rows.specs.Kinds.{width}

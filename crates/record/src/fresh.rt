@@ -9,6 +9,7 @@ use crate::answer::Refusal;
 use crate::instruction::{Instruction, Sources};
 use crate::modifiers::modifiers_in;
 use bits::fields::bits_at;
+use reasons::Reason;
 use rows::table;
 
 // The source byte for constant entry 0.
@@ -35,20 +36,20 @@ fn default_sources(shape: u64) -> Sources
 }
 
 impl Instruction {
-    // The default instruction of a row, or 2.
+    // The default instruction of a row; `NoRow` where there is no such row.
     pub fn fresh(row: usize) -> Result<Instruction, Refusal>
         ensures { making result ≡ fresh row }
     {
         if Instruction::ROWS <= row {
             return Err(Refusal {
-                number: 2,
+                number: Reason::NoRow as u8,
                 place: 0,
             });
         }
         let v = table::row_at(row);
-        let sources = default_sources(v[3]);
-        let modifiers = modifiers_in(v[4], v[5] / 4294967296 * 16777216);
-        let half_mask = 3 * (1 - bits_at(v[3], 47, 1));
+        let sources = default_sources(v.shape);
+        let modifiers = modifiers_in(v.modifiers, v.limits / 4294967296 * 16777216);
+        let half_mask = 3 * (1 - bits_at(v.shape, 47, 1));
         Ok(Instruction {
             row: row as u8,
             page: 0,

@@ -1,32 +1,30 @@
-// A branch offset and its 27 bits.
+// A branch offset and its 27 bits, two's complement.
 ghost use Rattle.std.specs.Prelude.{◌≡◌, ◌<◌};
 ghost use Rattle.record.specs.Instructions.{offset_of, offset_number};
 
+// Offsets are from -HALF to HALF - 1.
+const HALF: i32 = 1 << 26;
+
+// How many there are.
+const SPAN: i32 = 2 * HALF;
+
 // The offset that 27 bits give.
+#[tactic(auto, unfolding(bits::specs::Signed::signed))]
 pub fn offset_of(n: u64) -> i32
     requires { n < 134217728 }
     ensures { result ≡ offset_of n }
 {
-    if n < 67108864 {
-        return n as i32;
-    }
-    let k = (134217727 - n) as i32;
-    -1 - k
+    let z = n as i32;
+    if z < HALF { z } else { z - SPAN }
 }
 
 // The 27 bits of an offset; a larger number where it is out of range.
+#[tactic(auto, unfolding(bits::specs::Signed::unsigned))]
 pub fn offset_number(z: i32) -> u64
     ensures { result ≡ offset_number z }
 {
-    if 0 <= z {
-        if z < 67108864 {
-            return z as u64;
-        }
-        return 134217728;
+    if !(-HALF..HALF).contains(&z) {
+        return SPAN as u64;
     }
-    if -67108865 < z {
-        let k = (-1 - z) as u64;
-        return 134217727 - k;
-    }
-    134217728
+    if z < 0 { (z + SPAN) as u64 } else { z as u64 }
 }

@@ -1,15 +1,14 @@
 -- Where each place stands in the list of places, and lists that are mapped from it. Assumes nothing.
-use mathlib.Core.Path.{◌≡◌, refl, ap, ap₂, sym, ◌∙◌, subst}
+use mathlib.Core.Path.{◌≡◌, refl, ap, sym, subst}
 use mathlib.Core.Bool.{Bool, true, false, ◌||◌}
-use mathlib.Core.List.{List, [], ◌∷◌, map}
+use mathlib.Core.List.{List}
 use Prim.Native.Nat.{ℕ, zero, suc, ◌+◌, ◌<◌}
 use native.Mathlib.Omega.{arith}
 use lib.Dec.{T, ltb, eqb, ltb→lt}
 use lib.ListN.{length, get_or}
-use borrow.Author.Tests.{eqb-true, eqb-false}
-use Rattle.bits.specs.Fields.{Slot, slot, bits, split, fit, choose}
-use Rattle.bits.proofs.Every.{every, and_l, and_r, T_true, and_both}
-use Rattle.bits.proofs.FieldLaws.{Fit, none, some}
+use borrow.Author.Tests.{eqb-true}
+use Rattle.bits.specs.Fields.{choose}
+use Rattle.bits.proofs.Every.{every, T_true}
 use Rattle.rows.specs.Layout.{Place, source_place, offset_place, second_place, modifier_place, register_place, mask_place, opcode_place, page_place, flow_place, places}
 
 -- the places of the list

@@ -3,7 +3,7 @@
 use Rattle.std.specs.Prelude.{Bool, true, false, ◌&&◌, List, [], ◌∷◌, map, ℕ, suc, ◌*◌, ltb, eqb, get_or}
 use Rattle.bits.specs.Fields.{Slot, slot, bits, choose}
 use Rattle.rows.specs.Kinds.{Kind, width, absent, source, offset, second, register, half_mask, opcode, page, flow}
-use Rattle.rows.specs.Rows.{Row, Modifier, rows, row_of}
+use Rattle.rows.specs.Rows.{Row, Modifier}
 
 -- a place in a word: of source k, of the branch offset, of a secondary opcode that starts at bit p, of modifier j, of the destination's
 -- register and half mask, and of what every word has

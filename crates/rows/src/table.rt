@@ -6,9 +6,36 @@ ghost use Rattle.rows.specs.Served.Table.{row_words, table};
 // How many rows there are.
 pub const ROWS: usize = 77;
 
-// A row: opcode; secondary opcode; the bits that are the same in all of its words; its shape; its modifiers; what these may not hold, and
-// their defaults; which bits may not be 1 together with the next one.
-pub type Row = [u64; 7];
+// A row of the table, in numbers.
+#[derive(Clone, Copy, Debug, PartialEq, Eq)]
+pub struct Row {
+    pub opcode: u64,
+    // the secondary opcode
+    pub second: u64,
+    // the bits that are the same in all of its words
+    pub fixed_bits: u64,
+    pub shape: u64,
+    pub modifiers: u64,
+    // what modifiers may not hold, and their defaults
+    pub limits: u64,
+    // the bits that may not be 1 together with the next one
+    pub pairs: u64,
+}
+
+// A row on one line: its numbers in the order of the fields.
+macro_rules! row {
+    ($opcode:expr, $second:expr, $fixed_bits:expr, $shape:expr, $modifiers:expr, $limits:expr, $pairs:expr) => {
+        Row {
+            opcode: $opcode,
+            second: $second,
+            fixed_bits: $fixed_bits,
+            shape: $shape,
+            modifiers: $modifiers,
+            limits: $limits,
+            pairs: $pairs,
+        }
+    };
+}
 
 // Shapes. Bits 0 to 31: the sources' bits. Bit 32: there is an offset. From bit 33 the lowest bit of the secondary opcode, from bit 39 its
 // width. Bit 47: there is no destination. ONE_5: one source, and a secondary opcode of five bits.
@@ -123,159 +150,159 @@ const P_N: u64 = 1 << 8;
 const P_I: u64 = 1 << 33;
 
 // The rows, as the paper lists them.
-pub const NOP: Row = [0x00, 0, 0x81FFFFFFFFFFFFFF, BARE, 0, 0, 0];
+pub const NOP: Row = row!(0x00, 0, 0x81FFFFFFFFFFFFFF, BARE, 0, 0, 0);
 
-pub const BRANCHZ: Row = [0x1F, 0, 0x81FFFF0000000000, JUMP, BRANCH, L_COMBINE, 0];
+pub const BRANCHZ: Row = row!(0x1F, 0, 0x81FFFF0000000000, JUMP, BRANCH, L_COMBINE, 0);
 
-pub const DISCARD_F32: Row = [0x20, 0, 0x81FFFF08C3FF0000, TEST, NN | FF | C, L_FF, 0];
+pub const DISCARD_F32: Row = row!(0x20, 0, 0x81FFFF08C3FF0000, TEST, NN | FF | C, L_FF, 0);
 
-pub const CSEL_F32: Row = [0x154, 0, 0x81FF00F800000000, FOUR, C, 0, 0];
+pub const CSEL_F32: Row = row!(0x154, 0, 0x81FF00F800000000, FOUR, C, 0, 0);
 
-pub const CSEL_V2F16: Row = [0x155, 0, 0x81FF00F800000000, FOUR, C, 0, 0];
+pub const CSEL_V2F16: Row = row!(0x155, 0, 0x81FF00F800000000, FOUR, C, 0, 0);
 
-pub const V2S16_TO_V2F16: Row = [0x90, 0x7, 0x81FF000F3FFFFF00, ONE_5, R | W16, L_W16, 0];
+pub const V2S16_TO_V2F16: Row = row!(0x90, 0x7, 0x81FF000F3FFFFF00, ONE_5, R | W16, L_W16, 0);
 
-pub const V2U16_TO_V2F16: Row = [0x90, 0x17, 0x81FF000F3FFFFF00, ONE_5, R | W16, L_W16, 0];
+pub const V2U16_TO_V2F16: Row = row!(0x90, 0x17, 0x81FF000F3FFFFF00, ONE_5, R | W16, L_W16, 0);
 
-pub const S32_TO_F32: Row = [0x90, 0x9, 0x81FF000F3FFFFF00, ONE_5, R | W32, L_W32, 0];
+pub const S32_TO_F32: Row = row!(0x90, 0x9, 0x81FF000F3FFFFF00, ONE_5, R | W32, L_W32, 0);
 
-pub const U32_TO_F32: Row = [0x90, 0x19, 0x81FF000F3FFFFF00, ONE_5, R | W32, L_W32, 0];
+pub const U32_TO_F32: Row = row!(0x90, 0x19, 0x81FF000F3FFFFF00, ONE_5, R | W32, L_W32, 0);
 
-pub const S16_TO_S32: Row = [0x90, 0x4, 0x81FF00FFCFFFFF00, ONE_5, H, L_H, 0];
+pub const S16_TO_S32: Row = row!(0x90, 0x4, 0x81FF00FFCFFFFF00, ONE_5, H, L_H, 0);
 
-pub const S16_TO_F32: Row = [0x90, 0x5, 0x81FF00FFCFFFFF00, ONE_5, H, L_H, 0];
+pub const S16_TO_F32: Row = row!(0x90, 0x5, 0x81FF00FFCFFFFF00, ONE_5, H, L_H, 0);
 
-pub const U16_TO_U32: Row = [0x90, 0x14, 0x81FF00FFCFFFFF00, ONE_5, H, L_H, 0];
+pub const U16_TO_U32: Row = row!(0x90, 0x14, 0x81FF00FFCFFFFF00, ONE_5, H, L_H, 0);
 
-pub const U16_TO_F32: Row = [0x90, 0x15, 0x81FF00FFCFFFFF00, ONE_5, H, L_H, 0];
+pub const U16_TO_F32: Row = row!(0x90, 0x15, 0x81FF00FFCFFFFF00, ONE_5, H, L_H, 0);
 
-pub const F32_TO_S32: Row = [0x90, 0xC, 0x81FF003F3FFFFF00, ONE_5, R | N, 0, 0];
+pub const F32_TO_S32: Row = row!(0x90, 0xC, 0x81FF003F3FFFFF00, ONE_5, R | N, 0, 0);
 
-pub const F32_TO_U32: Row = [0x90, 0x1C, 0x81FF003F3FFFFF00, ONE_5, R | N, 0, 0];
+pub const F32_TO_U32: Row = row!(0x90, 0x1C, 0x81FF003F3FFFFF00, ONE_5, R | N, 0, 0);
 
-pub const V2F16_TO_V2S16: Row = [0x90, 0xE, 0x81FF003F0FFFFF00, ONE_5, R | N | H, L_H, 0];
+pub const V2F16_TO_V2S16: Row = row!(0x90, 0xE, 0x81FF003F0FFFFF00, ONE_5, R | N | H, L_H, 0);
 
-pub const V2F16_TO_V2U16: Row = [0x90, 0x1E, 0x81FF003F0FFFFF00, ONE_5, R | N | H, L_H, 0];
+pub const V2F16_TO_V2U16: Row = row!(0x90, 0x1E, 0x81FF003F0FFFFF00, ONE_5, R | N | H, L_H, 0);
 
-pub const F16_TO_S32: Row = [0x90, 0xA, 0x81FF003F0FFFFF00, ONE_5, R | N | H, L_H, 0];
+pub const F16_TO_S32: Row = row!(0x90, 0xA, 0x81FF003F0FFFFF00, ONE_5, R | N | H, L_H, 0);
 
-pub const F16_TO_U32: Row = [0x90, 0x1A, 0x81FF003F0FFFFF00, ONE_5, R | N | H, L_H, 0];
+pub const F16_TO_U32: Row = row!(0x90, 0x1A, 0x81FF003F0FFFFF00, ONE_5, R | N | H, L_H, 0);
 
-pub const F16_TO_F32: Row = [0x90, 0xB, 0x81FF003F2FFFFF00, ONE_5, R | N | BIT, 0, 0];
+pub const F16_TO_F32: Row = row!(0x90, 0xB, 0x81FF003F2FFFFF00, ONE_5, R | N | BIT, 0, 0);
 
-pub const S8_TO_S32: Row = [0x90, 0x0, 0x81FF00FFCFFFFF00, ONE_5, LANE, 0, 0];
+pub const S8_TO_S32: Row = row!(0x90, 0x0, 0x81FF00FFCFFFFF00, ONE_5, LANE, 0, 0);
 
-pub const S8_TO_F32: Row = [0x90, 0x1, 0x81FF00FFCFFFFF00, ONE_5, LANE, 0, 0];
+pub const S8_TO_F32: Row = row!(0x90, 0x1, 0x81FF00FFCFFFFF00, ONE_5, LANE, 0, 0);
 
-pub const U8_TO_U32: Row = [0x90, 0x10, 0x81FF00FFCFFFFF00, ONE_5, LANE, 0, 0];
+pub const U8_TO_U32: Row = row!(0x90, 0x10, 0x81FF00FFCFFFFF00, ONE_5, LANE, 0, 0);
 
-pub const U8_TO_F32: Row = [0x90, 0x11, 0x81FF00FFCFFFFF00, ONE_5, LANE, 0, 0];
+pub const U8_TO_F32: Row = row!(0x90, 0x11, 0x81FF00FFCFFFFF00, ONE_5, LANE, 0, 0);
 
-pub const V2S8_TO_V2S16: Row = [0x90, 0x2, 0x81FF000FFFFFFF00, ONE_5, HALVES, 0, 0];
+pub const V2S8_TO_V2S16: Row = row!(0x90, 0x2, 0x81FF000FFFFFFF00, ONE_5, HALVES, 0, 0);
 
-pub const V2S8_TO_V2F16: Row = [0x90, 0x3, 0x81FF000FFFFFFF00, ONE_5, HALVES, 0, 0];
+pub const V2S8_TO_V2F16: Row = row!(0x90, 0x3, 0x81FF000FFFFFFF00, ONE_5, HALVES, 0, 0);
 
-pub const V2U8_TO_V2U16: Row = [0x90, 0x12, 0x81FF000FFFFFFF00, ONE_5, HALVES, 0, 0];
+pub const V2U8_TO_V2U16: Row = row!(0x90, 0x12, 0x81FF000FFFFFFF00, ONE_5, HALVES, 0, 0);
 
-pub const V2U8_TO_V2F16: Row = [0x90, 0x13, 0x81FF000FFFFFFF00, ONE_5, HALVES, 0, 0];
+pub const V2U8_TO_V2F16: Row = row!(0x90, 0x13, 0x81FF000FFFFFFF00, ONE_5, HALVES, 0, 0);
 
-pub const FROUND_F32: Row = [0x90, 0xD, 0x81FF003F0FFFFF00, ONE_5, R | N | F, L_F, 0];
+pub const FROUND_F32: Row = row!(0x90, 0xD, 0x81FF003F0FFFFF00, ONE_5, R | N | F, L_F, 0);
 
-pub const FROUND_V2F16: Row = [0x90, 0xF, 0x81FF003F0FFFFF00, ONE_5, R | N | H, L_H, 0];
+pub const FROUND_V2F16: Row = row!(0x90, 0xF, 0x81FF003F0FFFFF00, ONE_5, R | N | H, L_H, 0);
 
-pub const MOV_I32: Row = [0x91, 0, 0x81FF00FFFFFFFF00, ONE_4, 0, 0, 0];
+pub const MOV_I32: Row = row!(0x91, 0, 0x81FF00FFFFFFFF00, ONE_4, 0, 0, 0);
 
-pub const CLZ_U32: Row = [0x91, 4, 0x81FF00FFFFFFFF00, ONE_4, 0, 0, 0];
+pub const CLZ_U32: Row = row!(0x91, 4, 0x81FF00FFFFFFFF00, ONE_4, 0, 0, 0);
 
-pub const CLZ_V2U16: Row = [0x91, 5, 0x81FF00FFCFFFFF00, ONE_4, H, L_H, 0];
+pub const CLZ_V2U16: Row = row!(0x91, 5, 0x81FF00FFCFFFFF00, ONE_4, H, L_H, 0);
 
-pub const CLZ_V4U8: Row = [0x91, 6, 0x81FF00FFFFFFFF00, ONE_4, 0, 0, 0];
+pub const CLZ_V4U8: Row = row!(0x91, 6, 0x81FF00FFFFFFFF00, ONE_4, 0, 0, 0);
 
-pub const IABS_S32: Row = [0x91, 8, 0x81FF000FFFFFFF00, ONE_4, W32, L_W32, 0];
+pub const IABS_S32: Row = row!(0x91, 8, 0x81FF000FFFFFFF00, ONE_4, W32, L_W32, 0);
 
-pub const IABS_V2S16: Row = [0x91, 9, 0x81FF000FFFFFFF00, ONE_4, W16, L_W16, 0];
+pub const IABS_V2S16: Row = row!(0x91, 9, 0x81FF000FFFFFFF00, ONE_4, W16, L_W16, 0);
 
-pub const IABS_V4S8: Row = [0x91, 10, 0x81FF00FFFFFFFF00, ONE_4, 0, 0, 0];
+pub const IABS_V4S8: Row = row!(0x91, 10, 0x81FF00FFFFFFFF00, ONE_4, 0, 0, 0);
 
-pub const POPCOUNT_I32: Row = [0x91, 12, 0x81FF00FFFFFFFF00, ONE_4, 0, 0, 0];
+pub const POPCOUNT_I32: Row = row!(0x91, 12, 0x81FF00FFFFFFFF00, ONE_4, 0, 0, 0);
 
-pub const BITREV_I32: Row = [0x91, 13, 0x81FF00FFFFFFFF00, ONE_4, 0, 0, 0];
+pub const BITREV_I32: Row = row!(0x91, 13, 0x81FF00FFFFFFFF00, ONE_4, 0, 0, 0);
 
-pub const NOT_OLD_I32: Row = [0x91, 14, 0x81FF00FFFFFFFF00, ONE_4, 0, 0, 0];
+pub const NOT_OLD_I32: Row = row!(0x91, 14, 0x81FF00FFFFFFFF00, ONE_4, 0, 0, 0);
 
-pub const FLUSH_F32: Row = [0x98, 0, 0x81FF003FCFFFF000, ONE_4, N | FLUSH | F, L_F, P_N];
+pub const FLUSH_F32: Row = row!(0x98, 0, 0x81FF003FCFFFF000, ONE_4, N | FLUSH | F, L_F, P_N);
 
-pub const FLUSH_V2F16: Row = [0x98, 1, 0x81FF003FCFFFF000, ONE_4, N | FLUSH | H, L_H, P_N];
+pub const FLUSH_V2F16: Row = row!(0x98, 1, 0x81FF003FCFFFF000, ONE_4, N | FLUSH | H, L_H, P_N);
 
-pub const FRCP_F32: Row = [0x9C, 0, 0x81FF003FCFFFFF00, ONE_4, N | F, L_F, 0];
+pub const FRCP_F32: Row = row!(0x9C, 0, 0x81FF003FCFFFFF00, ONE_4, N | F, L_F, 0);
 
-pub const FRSQ_F32: Row = [0x9C, 2, 0x81FF003FCFFFFF00, ONE_4, N | F, L_F, 0];
+pub const FRSQ_F32: Row = row!(0x9C, 2, 0x81FF003FCFFFFF00, ONE_4, N | F, L_F, 0);
 
-pub const FLOGD_F32: Row = [0x9C, 8, 0x81FF003FCFFFFF00, ONE_4, N | F, L_F, 0];
+pub const FLOGD_F32: Row = row!(0x9C, 8, 0x81FF003FCFFFFF00, ONE_4, N | F, L_F, 0);
 
-pub const FPCLASS_F32: Row = [0x9C, 10, 0x81FF003FCFFFFF00, ONE_4, N | F, L_F, 0];
+pub const FPCLASS_F32: Row = row!(0x9C, 10, 0x81FF003FCFFFFF00, ONE_4, N | F, L_F, 0);
 
-pub const FLOG_TABLE_F32: Row = [0x9C, 12, 0x81FF003FCFFFFF00, ONE_4, N | F, L_F, 0];
+pub const FLOG_TABLE_F32: Row = row!(0x9C, 12, 0x81FF003FCFFFFF00, ONE_4, N | F, L_F, 0);
 
-pub const FRCP_APPROX_F32: Row = [0x9C, 14, 0x81FF003FCFFFFF00, ONE_4, N | F, L_F, 0];
+pub const FRCP_APPROX_F32: Row = row!(0x9C, 14, 0x81FF003FCFFFFF00, ONE_4, N | F, L_F, 0);
 
-pub const FRSQ_APPROX_F32: Row = [0x9C, 15, 0x81FF003FCFFFFF00, ONE_4, N | F, L_F, 0];
+pub const FRSQ_APPROX_F32: Row = row!(0x9C, 15, 0x81FF003FCFFFFF00, ONE_4, N | F, L_F, 0);
 
-pub const FSIN_TABLE_U6: Row = [0x9C, 4, 0x81FF00FFFFFFFF00, ONE_4, 0, 0, 0];
+pub const FSIN_TABLE_U6: Row = row!(0x9C, 4, 0x81FF00FFFFFFFF00, ONE_4, 0, 0, 0);
 
-pub const FCOS_TABLE_U6: Row = [0x9C, 5, 0x81FF00FFFFFFFF00, ONE_4, 0, 0, 0];
+pub const FCOS_TABLE_U6: Row = row!(0x9C, 5, 0x81FF00FFFFFFFF00, ONE_4, 0, 0, 0);
 
-pub const FSINCOS_OFFSET_U6: Row = [0x9C, 6, 0x81FF00FFFFFFFF00, ONE_4, 0, 0, 0];
+pub const FSINCOS_OFFSET_U6: Row = row!(0x9C, 6, 0x81FF00FFFFFFFF00, ONE_4, 0, 0, 0);
 
-pub const FEXP_TABLE_U4: Row = [0x9C, 13, 0x81FF00FFFFFFFF00, ONE_4, 0, 0, 0];
+pub const FEXP_TABLE_U4: Row = row!(0x9C, 13, 0x81FF00FFFFFFFF00, ONE_4, 0, 0, 0);
 
-pub const FADD_F32: Row = [0xA4, 0, 0x81FF000CC3FF0000, TWO_4, NN | CLAMP | FF, L_FF, 0];
+pub const FADD_F32: Row = row!(0xA4, 0, 0x81FF000CC3FF0000, TWO_4, NN | CLAMP | FF, L_FF, 0);
 
-pub const FADD_V2F16: Row = [0xA5, 0, 0x81FF000CC3FF0000, TWO_4, NN | CLAMP | HH, L_HH, 0];
+pub const FADD_V2F16: Row = row!(0xA5, 0, 0x81FF000CC3FF0000, TWO_4, NN | CLAMP | HH, L_HH, 0);
 
-pub const MUX_I32: Row = [0xB8, 0, 0x81FF00FCFF000000, TRI, X, L_X, 0];
+pub const MUX_I32: Row = row!(0xB8, 0, 0x81FF00FCFF000000, TRI, X, L_X, 0);
 
-pub const MUX_V2I16: Row = [0xB9, 0, 0x81FF00FCC0000000, TRI, X | HHH, L_X | L_HHH, 0];
+pub const MUX_V2I16: Row = row!(0xB9, 0, 0x81FF00FCC0000000, TRI, X | HHH, L_X | L_HHH, 0);
 
-pub const MUX_V4I8: Row = [0xBA, 0, 0x81FF00FCFF000000, TRI, X, L_X, 0];
+pub const MUX_V4I8: Row = row!(0xBA, 0, 0x81FF00FCFF000000, TRI, X, L_X, 0);
 
-pub const CUBE_SSEL: Row = [0xBC, 0, 0x81FF000FFF000000, TRI_4, NN, 0, 0];
+pub const CUBE_SSEL: Row = row!(0xBC, 0, 0x81FF000FFF000000, TRI_4, NN, 0, 0);
 
-pub const CUBE_TSEL: Row = [0xBC, 1, 0x81FF000FFF000000, TRI_4, NN, 0, 0];
+pub const CUBE_TSEL: Row = row!(0xBC, 1, 0x81FF000FFF000000, TRI_4, NN, 0, 0);
 
-pub const CUBEFACE1: Row = [0xC0, 0, 0x81FF0003FF000000, TRI, NNN, 0, 0];
+pub const CUBEFACE1: Row = row!(0xC0, 0, 0x81FF0003FF000000, TRI, NNN, 0, 0);
 
-pub const CUBEFACE2_V9: Row = [0xC1, 0, 0x81FF0003FF000000, TRI, NNN, 0, 0];
+pub const CUBEFACE2_V9: Row = row!(0xC1, 0, 0x81FF0003FF000000, TRI, NNN, 0, 0);
 
-pub const IDP_V4S8: Row = [0xC2, 0, 0x81FF00FFBF000000, TRI_4, SAT, 0, 0];
+pub const IDP_V4S8: Row = row!(0xC2, 0, 0x81FF00FFBF000000, TRI_4, SAT, 0, 0);
 
-pub const IDP_V4U8: Row = [0xC2, 1, 0x81FF00FFBF000000, TRI_4, SAT, 0, 0];
+pub const IDP_V4U8: Row = row!(0xC2, 1, 0x81FF00FFBF000000, TRI_4, SAT, 0, 0);
 
-pub const ICMP_OR_U32: Row = [0xF0, 0, 0x81FF000803000000, TRI2, I | T | WW32, L_WW32, P_I];
+pub const ICMP_OR_U32: Row = row!(0xF0, 0, 0x81FF000803000000, TRI2, I | T | WW32, L_WW32, P_I);
 
-pub const ICMP_OR_V2U16: Row = [0xF1, 0, 0x81FF000803000000, TRI2, I | T | WW16, L_WW16, P_I];
+pub const ICMP_OR_V2U16: Row = row!(0xF1, 0, 0x81FF000803000000, TRI2, I | T | WW16, L_WW16, P_I);
 
-pub const ICMP_OR_V4U8: Row = [0xF2, 0, 0x81FF000803000000, TRI2, I | T | WW8, L_WW8, P_I];
+pub const ICMP_OR_V4U8: Row = row!(0xF2, 0, 0x81FF000803000000, TRI2, I | T | WW8, L_WW8, P_I);
 
-pub const ICMP_AND_U32: Row = [0xF0, 1, 0x81FF000803000000, TRI2, I | T | WW32, L_WW32, P_I];
+pub const ICMP_AND_U32: Row = row!(0xF0, 1, 0x81FF000803000000, TRI2, I | T | WW32, L_WW32, P_I);
 
-pub const ICMP_AND_V2U16: Row = [0xF1, 1, 0x81FF000803000000, TRI2, I | T | WW16, L_WW16, P_I];
+pub const ICMP_AND_V2U16: Row = row!(0xF1, 1, 0x81FF000803000000, TRI2, I | T | WW16, L_WW16, P_I);
 
-pub const ICMP_AND_V4U8: Row = [0xF2, 1, 0x81FF000803000000, TRI2, I | T | WW8, L_WW8, P_I];
+pub const ICMP_AND_V4U8: Row = row!(0xF2, 1, 0x81FF000803000000, TRI2, I | T | WW8, L_WW8, P_I);
 
-pub const FCMP_OR_F32: Row = [0xF4, 0, 0x81FF000803000000, TRI2, C | T | NN | FF, L_FF, 0];
+pub const FCMP_OR_F32: Row = row!(0xF4, 0, 0x81FF000803000000, TRI2, C | T | NN | FF, L_FF, 0);
 
-pub const FCMP_OR_V2F16: Row = [0xF5, 0, 0x81FF000803000000, TRI2, C | T | NN | HH, L_HH, 0];
+pub const FCMP_OR_V2F16: Row = row!(0xF5, 0, 0x81FF000803000000, TRI2, C | T | NN | HH, L_HH, 0);
 
-pub const FCMP_AND_F32: Row = [0xF4, 1, 0x81FF000803000000, TRI2, C | T | NN | FF, L_FF, 0];
+pub const FCMP_AND_F32: Row = row!(0xF4, 1, 0x81FF000803000000, TRI2, C | T | NN | FF, L_FF, 0);
 
-pub const FCMP_AND_V2F16: Row = [0xF5, 1, 0x81FF000803000000, TRI2, C | T | NN | HH, L_HH, 0];
+pub const FCMP_AND_V2F16: Row = row!(0xF5, 1, 0x81FF000803000000, TRI2, C | T | NN | HH, L_HH, 0);
 
-pub const ICMP_OR_S32: Row = [0xF8, 0, 0x81FF000803000000, TRI2, I | T | WW32, L_WW32, P_I];
+pub const ICMP_OR_S32: Row = row!(0xF8, 0, 0x81FF000803000000, TRI2, I | T | WW32, L_WW32, P_I);
 
-pub const ICMP_OR_V2S16: Row = [0xF9, 0, 0x81FF000803000000, TRI2, I | T | WW16, L_WW16, P_I];
+pub const ICMP_OR_V2S16: Row = row!(0xF9, 0, 0x81FF000803000000, TRI2, I | T | WW16, L_WW16, P_I);
 
-pub const ICMP_OR_V4S8: Row = [0xFA, 0, 0x81FF000803000000, TRI2, I | T | WW8, L_WW8, P_I];
+pub const ICMP_OR_V4S8: Row = row!(0xFA, 0, 0x81FF000803000000, TRI2, I | T | WW8, L_WW8, P_I);
 
 pub const TABLE: [Row; ROWS] = [
     NOP,

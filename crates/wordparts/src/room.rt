@@ -56,11 +56,11 @@ pub fn numbers_fit(v: table::Row, i: Instruction) -> bool
     requires { (v ≡ row_words (row_of i.row)) × (i.row < row_count) }
     ensures { result ≡ roomy (row_of i.row) i }
 {
-    if !heads_fit(v[3], i) {
+    if !heads_fit(v.shape, i) {
         return false;
     }
-    if v[3] % 4294967296 < sources_word(i.sources) {
+    if v.shape % 4294967296 < sources_word(i.sources) {
         return false;
     }
-    modifiers_fit(v[4], i.modifiers.list())
+    modifiers_fit(v.modifiers, i.modifiers.list())
 }

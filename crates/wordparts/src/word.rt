@@ -74,5 +74,5 @@ pub fn word_of(v: table::Row, i: Instruction) -> u64
     let fields = sources_word(i.sources)
         + (offset_number(i.offset) << 8)
         + modifiers_word(i.modifiers.list());
-    opcodes(v[0], v[1], v[3]) + heads_word(i) + fields
+    opcodes(v.opcode, v.second, v.shape) + heads_word(i) + fields
 }

@@ -1,10 +1,11 @@
 -- Each row as a line of numbers by which a word of it is judged.
-use Rattle.std.specs.Prelude.{◌≡◌, true, List, ℕ, ◌+◌, ◌*◌, ◌%◌, ◌^◌, ◌<◌, get_or, None, Option, Some}
+use Rattle.std.specs.Prelude.{◌≡◌, true, ℕ, ◌+◌, ◌*◌, ◌%◌, ◌^◌, ◌<◌, Option, Some}
 use Rattle.std.specs.Int.Bits.{bit_or}
 use Rattle.bits.specs.Fields.{bits}
 use Rattle.rows.specs.Rows.{row_of, row_count}
 use Rattle.rows.specs.Layout.{fits}
 use Rattle.rows.specs.Served.Table.{set_of, fixed_bit, fixed, pairs, limits, widths, shape}
+use Rattle.rows.specs.declared.table.Row.{Row as Words}
 use Rattle.lookup.specs.declared.Line.{Line}
 
 -- row k's line; past the table's end that of the row that has nothing
@@ -26,14 +27,14 @@ pub record OwnRow (w : ℕ) (found : Option Line) : Type 0 where
   -- and the line of the row that fits, if one does
   pub fitting : (k : ℕ) → k < row_count → fits (row_of k) w ≡ true → found ≡ Some (line_of k)
 
--- a line from the numbers of a row's line in the table
-abbrev pub line_from : ℕ → List ℕ → Line
+-- a line from a row of the table
+abbrev pub line_from : ℕ → Words → Line
 line_from k v =
     record {
-      fixed_bits = get_or v 2 0;
-      fixed = bit_or (get_or v 0 0 * 2 ^ 48 % 2 ^ 64) (get_or v 1 0 * 2 ^ bits (get_or v 3 0) 33 6 % 2 ^ 64);
-      pairs = get_or v 6 0;
-      limits = get_or v 5 0;
-      modifiers = get_or v 4 0;
-      shape = bit_or (get_or v 3 0) (k * 2 ^ 48 % 2 ^ 64);
+      fixed_bits = v.fixed_bits;
+      fixed = bit_or (v.opcode * 2 ^ 48 % 2 ^ 64) (v.second * 2 ^ bits v.shape 33 6 % 2 ^ 64);
+      pairs = v.pairs;
+      limits = v.limits;
+      modifiers = v.modifiers;
+      shape = bit_or v.shape (k * 2 ^ 48 % 2 ^ 64);
     }

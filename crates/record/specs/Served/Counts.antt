@@ -1,5 +1,5 @@
 -- How many sources the rows have, sixteen rows to a number.
-use Rattle.std.specs.Prelude.{List, [], ◌∷◌, map, ℕ, ◌+◌, ◌*◌, get_or}
+use Rattle.std.specs.Prelude.{[], ◌∷◌, map, ℕ, ◌+◌, ◌*◌, get_or}
 use Rattle.rows.specs.Rows.{row_of}
 use Rattle.rows.specs.Served.Table.{pack}
 

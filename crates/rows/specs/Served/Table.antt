@@ -1,10 +1,11 @@
--- The rows as lines of numbers, as the code's table has them.
+-- The rows in numbers, as the code's table has them.
 use Rattle.std.specs.Prelude.{Bool, true, ◌&&◌, ◌||◌, not, List, [], ◌∷◌, map, ℕ, zero, suc, ◌+◌, ◌-◌, ◌*◌, ◌/◌, ◌%◌, ◌^◌}
 use Rattle.bits.specs.Fields.{choose, slot, inside, assigned}
 use Rattle.rows.specs.Kinds.{Kind, width, about, legal_value}
 use Rattle.rows.specs.Rows.{Row, rows}
 use Rattle.rows.specs.Layout.{Place, modifier_place, kind_at, low, modifier_places, slots}
 use Rattle.rows.specs.Sources.{is_reserved, special_at}
+use Rattle.rows.specs.declared.table.Row.{Row as Words}
 
 -- the set of the numbers below n that pass a test
 abbrev pub set_of : (ℕ → Bool) → ℕ → ℕ
@@ -71,12 +72,21 @@ restricted k = not (upto (2 ^ width k) (legal_value k))
 abbrev pub pairs : Row → ℕ
 pairs r = 2 ^ 8 * one_if (restricted (kind_of r 0)) + 2 ^ 33 * one_if (restricted (kind_of r 7))
 
--- a row: opcode; secondary opcode; the bits that are the same in all of its words; shape; widths; limits; pairs
-abbrev pub row_words : Row → List ℕ
-row_words r = r.opcode ∷ r.second ∷ set_of (fixed_bit r) 64 ∷ shape r ∷ widths r ∷ limits r ∷ pairs r ∷ []
+-- a row in numbers
+abbrev pub row_words : Row → Words
+row_words r =
+    record {
+      opcode = r.opcode;
+      second = r.second;
+      fixed_bits = set_of (fixed_bit r) 64;
+      shape = shape r;
+      modifiers = widths r;
+      limits = limits r;
+      pairs = pairs r;
+    }
 
--- a line for each row
-unfoldable pub table : List (List ℕ)
+-- the numbers of each row
+unfoldable pub table : List Words
 table = map row_words rows
 
 -- the values of a page's enumeration that are not reserved, as a set

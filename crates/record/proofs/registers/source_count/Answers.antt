@@ -10,6 +10,6 @@ returns c =
     let k = c.args.row in
     let e : c.bits_at.result ≡ (row_of k).sources =
     c.bits_at.ensures.0
-    ∙ ap₂ (λ (x y : ℕ). bits x (y * 4) 4) c.counts.ensures c.wide.ensures.0
+    ∙ ap₂ (λ (x y : ℕ). bits x (y * 4) 4) c.counts.ensures c.from.ensures
     ∙ count_law k in
     (e, rw e (count_le k))

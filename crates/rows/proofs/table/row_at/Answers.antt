@@ -7,4 +7,4 @@ use Rattle.rows.proofs.table.row_at.Goals as goal
 
 pub returns : goal.returns
 unfolding table rows slots places modifier_at assigned
-returns c = row_line c.args.row c.requires
+returns c = row_line c.args.row _ c.requires

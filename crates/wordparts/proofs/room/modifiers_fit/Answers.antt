@@ -1,5 +1,4 @@
 use mathlib.Core.Path.{◌∙◌}
-use Prim.Native.Nat.{◌-◌}
 use native.Mathlib.Omega.{arith}
 use Rattle.writing.proofs.RoomLaws.{narrow_hit, narrow_miss, narrow_end}
 use Rattle.wordparts.proofs.room.modifiers_fit.Goals as goal

@@ -1,5 +1,4 @@
 use mathlib.Core.Path.{◌≡◌}
-use Prim.Native.Nat.{◌-◌}
 use native.Mathlib.Omega.{arith}
 use Rattle.writing.proofs.WordLaws.{modifier_step, modifier_small, modifiers_end}
 use Rattle.wordparts.proofs.word.modifiers_word.Goals as goal

@@ -1,11 +1,10 @@
 use mathlib.Core.Path.{◌≡◌, sym, ap, ◌∙◌, subst}
-use mathlib.Core.List.{List}
-use Prim.Native.Nat.{ℕ, ◌+◌, ◌*◌, ◌%◌, ◌^◌, ◌<◌}
+use Prim.Native.Nat.{◌+◌, ◌*◌, ◌%◌, ◌^◌, ◌<◌}
 use native.Mathlib.Omega.{arith}
-use lib.ListN.{get_or}
 use mir.Syntax.{w32}
 use mir.Facts.{to_z-of_z}
 use Rattle.bits.specs.Fields.{bits}
+use Rattle.rows.specs.declared.table.Row.{Row as Words}
 use Rattle.record.specs.Instructions.{offset_number, word_of}
 use Rattle.writing.specs.Served.Parts.{modifier_word}
 use Rattle.writing.proofs.RoomLaws.{offset_small}
@@ -21,7 +20,7 @@ overflow_add-fields-2 c = omega (arith, offset_small _ c.offset_number.ensures)
 
 pub opcodes-requires : goal.opcodes-requires
 opcodes-requires c =
-    subst (λ (l : List ℕ). get_or l 0 0 * 2 ^ 48 + get_or l 1 0 * 2 ^ bits (get_or l 3 0) 33 6 < 2 ^ 64) (sym c.requires.0) (opcodes_lt c.args.i c.requires.1 c.requires.2)
+    subst (λ (r : Words). r.opcode * 2 ^ 48 + r.second * 2 ^ bits r.shape 33 6 < 2 ^ 64) (sym c.requires.0) (opcodes_lt c.args.i c.requires.1 c.requires.2)
 
 pub heads_word-requires : goal.heads_word-requires
 heads_word-requires c =
@@ -34,7 +33,7 @@ overflow_add-result c =
     ≡ word_of c.args.i = let i = c.args.i in
     let p = c.requires in
     let back = to_z-of_z {w = w32} {z = i.offset} (record { sfits = c.struct_told-1.given.1.1.1.1.1.1.1.0.1 }) in
-    let eo = c.opcodes.ensures ∙ ap (λ (l : List ℕ). get_or l 0 0 * 2 ^ 48 + get_or l 1 0 * 2 ^ bits (get_or l 3 0) 33 6) p.0 in
+    let eo = c.opcodes.ensures ∙ ap (λ (r : Words). r.opcode * 2 ^ 48 + r.second * 2 ^ bits r.shape 33 6) p.0 in
     let ef = c.offset_number.ensures ∙ ap offset_number back in
     let em = c.modifiers_word.ensures.0 ∙ ap modifier_word c.list.ensures in
     let es = c.sources_word.ensures.0 in
@@ -48,7 +47,7 @@ overflow_add-result-2 c =
     ≡ word_of c.args.i = let i = c.args.i in
     let p = c.requires in
     let back = to_z-of_z {w = w32} {z = i.offset} (record { sfits = c.struct_told-1.given.1.1.1.1.1.1.1.0.1 }) in
-    let eo = c.opcodes.ensures ∙ ap (λ (l : List ℕ). get_or l 0 0 * 2 ^ 48 + get_or l 1 0 * 2 ^ bits (get_or l 3 0) 33 6) p.0 in
+    let eo = c.opcodes.ensures ∙ ap (λ (r : Words). r.opcode * 2 ^ 48 + r.second * 2 ^ bits r.shape 33 6) p.0 in
     let ef = c.offset_number.ensures ∙ ap offset_number back in
     let em = c.modifiers_word.ensures.0 ∙ ap modifier_word c.list.ensures in
     let es = c.sources_word.ensures.0 in
@@ -62,7 +61,7 @@ returns c =
     ≡ word_of c.args.i = let i = c.args.i in
     let p = c.requires in
     let back = to_z-of_z {w = w32} {z = i.offset} (record { sfits = c.struct_told-1.given.1.1.1.1.1.1.1.0.1 }) in
-    let eo = c.opcodes.ensures ∙ ap (λ (l : List ℕ). get_or l 0 0 * 2 ^ 48 + get_or l 1 0 * 2 ^ bits (get_or l 3 0) 33 6) p.0 in
+    let eo = c.opcodes.ensures ∙ ap (λ (r : Words). r.opcode * 2 ^ 48 + r.second * 2 ^ bits r.shape 33 6) p.0 in
     let ef = c.offset_number.ensures ∙ ap offset_number back in
     let em = c.modifiers_word.ensures.0 ∙ ap modifier_word c.list.ensures in
     let es = c.sources_word.ensures.0 in
