@@ -20,7 +20,7 @@ use record::offset::offset_of;
 fn sources_in(s: u64) -> Sources
     ensures { result ≡ bytes_of s }
 {
-    let [s0, s1, s2, s3] = (s as u32).to_le_bytes();
+    let [s0, s1, s2, s3, ..] = s.to_le_bytes();
     Sources { s0, s1, s2, s3 }
 }
 
@@ -33,7 +33,7 @@ fn instruction_of(f: Fit, w: u64) -> Instruction
     let modifiers = modifiers_in(f.modifiers, w);
     let offset = offset_of(bits_at(w, 8, 27) * bits_at(f.shape, 32, 1));
     Instruction {
-        row: (f.shape / 281474976710656) as u8,
+        row: (f.shape >> 48) as u8,
         page: bits_at(w, 57, 2) as u8,
         flow: bits_at(w, 59, 4) as u8,
         register: bits_at(w, 40, 6) as u8,

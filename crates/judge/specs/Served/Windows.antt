@@ -1,5 +1,5 @@
 -- Whether the modifiers of a word are legal, asked of a row's limits and pairs.
-use Rattle.std.specs.Prelude.{Bool, true, false, ◌&&◌, not, ℕ, ◌+◌, ◌/◌, eqb, Result}
+use Rattle.std.specs.Prelude.{Bool, false, ℕ, ◌+◌, ◌/◌, eqb, Result}
 use Rattle.std.specs.Int.Bits.{bit_and}
 use Rattle.bits.specs.Fields.{bits, choose}
 use Rattle.bits.specs.Sets.{has}
