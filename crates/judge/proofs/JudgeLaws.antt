@@ -32,7 +32,7 @@ use Rattle.lookup.specs.Served.Lines.{line_of}
 use Rattle.lookup.specs.declared.Line.{Line}
 use Rattle.opcoderows.proofs.OpcodeLaws.{found_among}
 use Rattle.reading.specs.Reader.{lowest_stray, read_row, read_number}
-use Rattle.judge.specs.Served.Judge.{refused, refusal_of, fit_of, Known, Fitted, Judges, judged_sources}
+use Rattle.judge.specs.Served.Judge.{refused, fit_of, Known, Fitted, Judges, judged_sources}
 use Rattle.judge.specs.Served.Windows.{modifiers_ok, refused_modifier}
 use Rattle.judge.specs.declared.Fit.{Fit}
 use Rattle.reading.proofs.StrayLaws.{stray_le}
@@ -54,7 +54,7 @@ in_order t0 t4 t5 t7 t10 t11 =
     then require t10 (refusal 6 36)
     then require t11 (refusal 6 37)
 
-abbrev pick : (t0 t4 t5 t7 t10 t11 : Bool) → (Result Fit ℕ)
+abbrev pick : (t0 t4 t5 t7 t10 t11 : Bool) → (Result Fit Refusal)
 pick t0 t4 t5 t7 t10 t11 =
     choose (not t0) (refused 6 8)
     (choose (not t4) (refused 6 26)
@@ -245,17 +245,6 @@ module _ (w k : ℕ) (ek : find rows 0 w ≡ k) (h : k < row_count) (clean : low
         unfolding judged_sources
         by_sources = sourced w k (fit_of k w) n (q 0) (q 1) (q 2) (q 3) last
 
--- ---- the refusal that a judgement's number stands for
-
-told_as : (n p : ℕ) → n < 256 → p < 256 → refusal n p ≡ refusal_of (n + 256 * p)
-told_as n p l h = λ j. record { number = number j; place = place j }
-  where
-    number : n ≡ bits (n + 256 * p) 0 8
-    number = omega arith
-
-    place : p ≡ bits (n + 256 * p) 8 8
-    place = omega arith
-
 -- ---- the line that is found
 
 module _ (w : ℕ) where
@@ -323,7 +312,7 @@ module _ (w : ℕ) (hw : w < 2 ^ 64) (l : Line) (fl : Fitted w l) where
   pub stray_there : (bit_and w l.fixed_bits ≡ l.fixed → ⊥) → Judges w (refused 3 (lowest_stray (find rows 0 w) w))
   unfolding read_row ◌then◌
   stray_there n =
-      rw (lt-ltb k' row_count fl.in_table, lt-leb 64 (lowest_stray k' w) stray_lt) (ap refuses (told_as 3 (lowest_stray k' w) (omega arith) (omega (arith, stray_lt))))
+      rw (lt-ltb k' row_count fl.in_table, lt-leb 64 (lowest_stray k' w) stray_lt)
     where
       stray_lt : lowest_stray (find rows 0 w) w < 64
       stray_lt = go (ltb (lowest_stray (find rows 0 w) w) 64) refl
@@ -346,11 +335,11 @@ module _ (w : ℕ) (hw : w < 2 ^ 64) (l : Line) (fl : Fitted w l) where
     found_known = known (find rows 0 w) w fl.in_table agreed
 
     -- what the fields get, by what the tests of the line found
-    pub fields_4 : {j : (Result Fit ℕ)} {x : Bool} {y : ℕ} → x ≡ has 43007 y → y ≡ bits w 59 4 → x ≡ false → j ≡ refused 4 0 → Judges w j
+    pub fields_4 : {j : (Result Fit Refusal)} {x : Bool} {y : ℕ} → x ≡ has 43007 y → y ≡ bits w 59 4 → x ≡ false → j ≡ refused 4 0 → Judges w j
     fields_4 e q z ej = subst (Judges w) (sym ej) (stop_flow w (find rows 0 w) refl fl.in_table found_clean (e ∙ ap (has 43007) q) z)
 
     module _ {x : Bool} {y : ℕ} (e : x ≡ has 43007 y) (q : y ≡ bits w 59 4) (z : x ≡ true) where
-      pub fields_5 : {j : (Result Fit ℕ)} {m : ℕ} → m ≡ bits (bit_or w l.shape) 46 2 → m ≡ 0 → j ≡ refused 5 0 → Judges w j
+      pub fields_5 : {j : (Result Fit Refusal)} {m : ℕ} → m ≡ bits (bit_or w l.shape) 46 2 → m ≡ 0 → j ≡ refused 5 0 → Judges w j
       fields_5 em zm ej =
           subst (Judges w) (sym ej) (stop_mask w (find rows 0 w) refl fl.in_table found_clean (e ∙ ap (has 43007) q) z (eq-eqb _ 0 (sym (mask_same em) ∙ zm)))
 
@@ -358,7 +347,7 @@ module _ (w : ℕ) (hw : w < 2 ^ 64) (l : Line) (fl : Fitted w l) where
         mask_ne : eqb (bits (bit_or w (shape (row_of (find rows 0 w)) + find rows 0 w * 2 ^ 48)) 46 2) 0 ≡ false
         mask_ne = ne_eqb _ 0 (λ n. zm (mask_same em ∙ n))
 
-        pub fields_6 : {j : (Result Fit ℕ)} {o : Bool} → o ≡ modifiers_ok l.limits l.pairs w → o ≡ false → j ≡ refused_modifier l.limits l.modifiers l.pairs w → Judges w j
+        pub fields_6 : {j : (Result Fit Refusal)} {o : Bool} → o ≡ modifiers_ok l.limits l.pairs w → o ≡ false → j ≡ refused_modifier l.limits l.modifiers l.pairs w → Judges w j
         fields_6 eo zo ej =
             subst (Judges w) (sym (ej ∙ (λ t. refused_modifier (limits_there t) (widths_there t) (pairs_there t) w)))
             (stop_modifier w (find rows 0 w) refl fl.in_table found_clean (e ∙ ap (has 43007) q) z mask_ne (sym (eo ∙ ok_same) ∙ zo))
@@ -368,13 +357,13 @@ module _ (w : ℕ) (hw : w < 2 ^ 64) (l : Line) (fl : Fitted w l) where
           fit_there : f ≡ fit_of (find rows 0 w) w
           fit_there = ef ∙ (λ t. record { shape = shape_there t; sources = bit_and w (shape_there t) % 4294967296; modifiers = widths_there t })
 
-          pub fields_7 : {j : (Result Fit ℕ)} → j ≡ judged_sources f w → Judges w j
+          pub fields_7 : {j : (Result Fit Refusal)} → j ≡ judged_sources f w → Judges w j
           fields_7 ej =
               subst (Judges w) (sym (ej ∙ ap (λ (x : Fit). judged_sources x w) fit_there))
               (by_sources w (find rows 0 w) refl fl.in_table found_clean (e ∙ ap (has 43007) q) z mask_ne (sym (eo ∙ ok_same) ∙ zo) found_known)
 
           -- sources that are all below 224 are legal
-          pub fields_low : {j : (Result Fit ℕ)} → ((i : ℕ) → i < 4 → bits f.sources (8 * i) 8 < 224) → j ≡ Ok f → Judges w j
+          pub fields_low : {j : (Result Fit Refusal)} → ((i : ℕ) → i < 4 → bits f.sources (8 * i) 8 < 224) → j ≡ Ok f → Judges w j
           unfolding judged_sources
           fields_low u ej =
               let v = low_legal f.sources (bits w 57 2) u in

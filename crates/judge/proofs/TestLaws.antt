@@ -41,22 +41,18 @@ module _ (f : Fit) (w : ℕ) where
   abbrev s : ℕ → Bool
   s j = source_legal (bits w 57 2) (bits f.sources (8 * j) 8)
 
-  pub all_of_0 : s 0 ≡ false → refused 7 0 ≡ judged_sources f w
-  unfolding judged_sources
-  all_of_0 a = rw a
+  -- the sources before the j-th are legal
+  abbrev pub LegalBelow : ℕ → Type 0
+  LegalBelow j = (i : ℕ) → i < j → s i ≡ true
 
-  pub all_of_1 : s 0 ≡ true → s 1 ≡ false → refused 7 1 ≡ judged_sources f w
+  pub first_illegal : (j : ℕ) → j < 4 → LegalBelow j → s j ≡ false → refused 7 j ≡ judged_sources f w
   unfolding judged_sources
-  all_of_1 a b = rw (a, b)
+  first_illegal zero h a b = rw b
+  first_illegal (suc zero) h a b = rw (a 0 (omega arith), b)
+  first_illegal (suc (suc zero)) h a b = rw (a 0 (omega arith), a 1 (omega arith), b)
+  first_illegal (suc (suc (suc zero))) h a b = rw (a 0 (omega arith), a 1 (omega arith), a 2 (omega arith), b)
+  first_illegal (suc (suc (suc (suc j)))) h a b = absurd (omega arith)
 
-  pub all_of_2 : s 0 ≡ true → s 1 ≡ true → s 2 ≡ false → refused 7 2 ≡ judged_sources f w
+  pub all_legal : LegalBelow 4 → Ok f ≡ judged_sources f w
   unfolding judged_sources
-  all_of_2 a b c = rw (a, b, c)
-
-  pub all_of_3 : s 0 ≡ true → s 1 ≡ true → s 2 ≡ true → s 3 ≡ false → refused 7 3 ≡ judged_sources f w
-  unfolding judged_sources
-  all_of_3 a b c d = rw (a, b, c, d)
-
-  pub all_legal : s 0 ≡ true → s 1 ≡ true → s 2 ≡ true → s 3 ≡ true → Ok f ≡ judged_sources f w
-  unfolding judged_sources
-  all_legal a b c d = rw (a, b, c, d)
+  all_legal a = rw (a 0 (omega arith), a 1 (omega arith), a 2 (omega arith), a 3 (omega arith))

@@ -8,17 +8,19 @@ ghost use Rattle.bits.specs.Sets.{has};
 ghost use Rattle.rows.specs.Rows.{rows};
 ghost use Rattle.rows.specs.Layout.{find};
 ghost use Rattle.reading.specs.Reader.{lowest_stray};
-ghost use Rattle.judge.specs.Served.Judge.{refused, refusal_of, judged_sources, Fitted, Judges};
+ghost use Rattle.reasons.specs.Numbers.{number_of};
+ghost use Rattle.judge.specs.Served.Judge.{refused, judged_sources, Fitted, Judges};
 ghost use Rattle.judge.specs.Served.Windows.{modifiers_ok, refused_modifier};
 
 use bits::fields::bits_at;
 use bits::sets::{lowest, missing};
 use lookup::{Line, line_of};
+use reasons::Reason;
 use record::answer::Refusal;
 use sources::source_ok;
 
 // What is known of a word that reads: its row's shape, with the row number from bit 48 up; its sources; the widths of its row's modifiers.
-#[derive(Clone, Copy)]
+#[derive(Clone, Copy, Debug, PartialEq, Eq)]
 pub struct Fit {
     pub shape: u64,
     pub sources: u64,
@@ -31,20 +33,11 @@ const NO_HALF: u64 = 0;
 // The flows that are not reserved.
 const FLOWS: u64 = 0xA7FF;
 
-fn refuse(number: u8, place: u8) -> Result<Fit, u64>
-    ensures { result ≡ refused number place }
+fn refuse(reason: Reason, place: u8) -> Result<Fit, Refusal>
+    ensures { result ≡ refused (number_of reason) place }
 {
-    Err(number as u64 + 256 * place as u64)
-}
-
-// The refusal that a judgement's number stands for.
-pub fn refusal_of(code: u64) -> Refusal
-    ensures { result ≡ refusal_of code }
-{
-    Refusal {
-        number: bits_at(code, 0, 8) as u8,
-        place: bits_at(code, 8, 8) as u8,
-    }
+    let number = reason.number();
+    Err(Refusal { number, place })
 }
 
 // Whether a set has v.
@@ -76,61 +69,53 @@ fn modifiers_ok(l: Line, w: u64) -> bool
 }
 
 // The refusal of a word of which a modifier is illegal: of the lowest.
-fn refuse_modifier(l: Line, w: u64) -> Result<Fit, u64>
+fn refuse_modifier(l: Line, w: u64) -> Result<Fit, Refusal>
     ensures { result ≡ refused_modifier l.limits l.modifiers l.pairs w }
 {
     let low = bits_at(w, 26, 4);
     let high = bits_at(w, 36, 4);
     let both = w & (w / 2) & l.pairs;
     if bits_at(both, 8, 1) == 1 {
-        return refuse(6, 8);
+        return refuse(Reason::IllegalModifier, 8);
     }
     if has(l.limits, bits_at(low, 0, bits_at(l.modifiers, 16, 3))) {
-        return refuse(6, 26);
+        return refuse(Reason::IllegalModifier, 26);
     }
     if has(l.limits, low) {
-        return refuse(6, 28);
+        return refuse(Reason::IllegalModifier, 28);
     }
     if both != 0 {
-        return refuse(6, 32);
+        return refuse(Reason::IllegalModifier, 32);
     }
     if has(l.limits, 16 + bits_at(high, 0, bits_at(l.modifiers, 40, 3))) {
-        return refuse(6, 36);
+        return refuse(Reason::IllegalModifier, 36);
     }
-    refuse(6, 37)
+    refuse(Reason::IllegalModifier, 37)
 }
 
 // The refusal of the first source that isn't legal on the word's page, else what is known.
-fn judge_sources(f: Fit, w: u64) -> Result<Fit, u64>
+fn judge_sources(f: Fit, w: u64) -> Result<Fit, Refusal>
     ensures { result ≡ judged_sources f w }
 {
     let page = bits_at(w, 57, 2);
-    let s = f.sources;
-    if !source_ok(page, bits_at(s, 0, 8)) {
-        return refuse(7, 0);
-    }
-    if !source_ok(page, bits_at(s, 8, 8)) {
-        return refuse(7, 1);
-    }
-    if !source_ok(page, bits_at(s, 16, 8)) {
-        return refuse(7, 2);
-    }
-    if !source_ok(page, bits_at(s, 24, 8)) {
-        return refuse(7, 3);
+    for j in 0..4 {
+        if !source_ok(page, bits_at(f.sources, 8 * j, 8)) {
+            return refuse(Reason::IllegalSource, j as u8);
+        }
     }
     Ok(f)
 }
 
 // What a word gets whose row and bits are right: the first of the refusals 4 to 7, or what is known of it.
-fn judge_fields(l: Line, w: u64) -> Result<Fit, u64>
+fn judge_fields(l: Line, w: u64) -> Result<Fit, Refusal>
     requires { Fitted w l × (bit_and w l.fixed_bits ≡ l.fixed) }
     ensures { Judges w result }
 {
     if !has(FLOWS, bits_at(w, 59, 4)) {
-        return refuse(4, 0);
+        return refuse(Reason::ReservedFlow, 0);
     }
     if bits_at(w | l.shape, 46, 2) == NO_HALF {
-        return refuse(5, 0);
+        return refuse(Reason::NoHalf, 0);
     }
     if !modifiers_ok(l, w) {
         return refuse_modifier(l, w);
@@ -157,16 +142,14 @@ fn lowest_stray(l: Line, w: u64) -> u8
 }
 
 // What a word gets: the first of the refusals 2 to 7, or what is known of it.
-pub fn judge_word(w: u64) -> Result<Fit, u64>
+pub fn judge_word(w: u64) -> Result<Fit, Refusal>
     ensures { Judges w result }
 {
-    match line_of(w) {
-        Some(l) => {
-            if w & l.fixed_bits == l.fixed {
-                return judge_fields(l, w);
-            }
-            refuse(3, lowest_stray(l, w))
-        }
-        None => refuse(2, 0),
+    let Some(l) = line_of(w) else {
+        return refuse(Reason::NoRow, 0);
+    };
+    if w & l.fixed_bits == l.fixed {
+        return judge_fields(l, w);
     }
+    refuse(Reason::StrayBit, lowest_stray(l, w))
 }

@@ -9,7 +9,8 @@ ghost use Rattle.judge.specs.Served.Judge.{Known, bytes_of};
 
 use bits::bytes::load64;
 use bits::fields::bits_at;
-use judge::{Fit, judge_word, refusal_of};
+use judge::{Fit, judge_word};
+use reasons::Reason;
 use record::answer::Refusal;
 use record::instruction::{Instruction, Sources};
 use record::modifiers::modifiers_in;
@@ -19,12 +20,8 @@ use record::offset::offset_of;
 fn sources_in(s: u64) -> Sources
     ensures { result ≡ bytes_of s }
 {
-    Sources {
-        s0: bits_at(s, 0, 8) as u8,
-        s1: bits_at(s, 8, 8) as u8,
-        s2: bits_at(s, 16, 8) as u8,
-        s3: bits_at(s, 24, 8) as u8,
-    }
+    let [s0, s1, s2, s3, ..] = s.to_le_bytes();
+    Sources { s0, s1, s2, s3 }
 }
 
 // What a word says of which f is known.
@@ -36,7 +33,7 @@ fn instruction_of(f: Fit, w: u64) -> Instruction
     let modifiers = modifiers_in(f.modifiers, w);
     let offset = offset_of(bits_at(w, 8, 27) * bits_at(f.shape, 32, 1));
     Instruction {
-        row: (f.shape / 281474976710656) as u8,
+        row: (f.shape >> 48) as u8,
         page: bits_at(w, 57, 2) as u8,
         flow: bits_at(w, 59, 4) as u8,
         register: bits_at(w, 40, 6) as u8,
@@ -51,10 +48,8 @@ fn instruction_of(f: Fit, w: u64) -> Instruction
 pub fn read_number(w: u64) -> Result<Instruction, Refusal>
     ensures { reading result ≡ read_number w }
 {
-    match judge_word(w) {
-        Ok(f) => Ok(instruction_of(f, w)),
-        Err(code) => Err(refusal_of(code)),
-    }
+    let f = judge_word(w)?;
+    Ok(instruction_of(f, w))
 }
 
 // What eight bytes say, and 1 of any other count.
@@ -63,7 +58,7 @@ pub fn read_bytes(bytes: &[u8]) -> Result<Instruction, Refusal>
 {
     if bytes.len() != 8 {
         return Err(Refusal {
-            number: 1,
+            number: Reason::WordLength as u8,
             place: 0,
         });
     }

@@ -8,7 +8,6 @@ ghost use Rattle.record.specs.Legality.{room, roomy};
 ghost use Rattle.writing.specs.Served.Parts.{narrow};
 
 use crate::word::sources_word;
-use bits::bytes::wide;
 use bits::fields::bits_at;
 use record::instruction::{Instruction, MODIFIERS};
 use record::offset::offset_number;
@@ -26,12 +25,10 @@ fn has_room(n: u64, width: u64) -> bool
 pub(crate) fn modifiers_fit(widths: u64, m: [u8; MODIFIERS]) -> bool
     ensures { result ≡ narrow widths 0 m }
 {
-    let mut j = 0;
-    while j < MODIFIERS {
-        if !has_room(wide(m[j]), bits_at(widths, 4 * j as u64, 3)) {
+    for j in 0..MODIFIERS {
+        if !has_room(u64::from(m[j]), bits_at(widths, 4 * j as u64, 3)) {
             return false;
         }
-        j += 1;
     }
     true
 }
@@ -44,10 +41,10 @@ fn heads_fit(shape_word: u64, i: Instruction) -> bool
 {
     let there = 1 - bits_at(shape_word, 47, 1);
     let far = bits_at(shape_word, 32, 1);
-    let spilt = (wide(i.page) >> 2)
-        + (wide(i.flow) >> 4)
-        + (wide(i.register) >> (6 * there))
-        + (wide(i.half_mask) >> (2 * there));
+    let spilt = (u64::from(i.page) >> 2)
+        + (u64::from(i.flow) >> 4)
+        + (u64::from(i.register) >> (6 * there))
+        + (u64::from(i.half_mask) >> (2 * there));
     spilt + (offset_number(i.offset) >> (27 * far)) == 0
 }
 

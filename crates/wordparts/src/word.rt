@@ -10,7 +10,6 @@ ghost use Rattle.record.specs.Instructions.{word_of};
 ghost use Rattle.record.specs.Legality.{roomy};
 ghost use Rattle.writing.specs.Served.Parts.{modifier_word};
 
-use bits::bytes::wide;
 use bits::fields::bits_at;
 use record::instruction::{Instruction, MODIFIERS, Sources};
 use record::offset::offset_number;
@@ -19,23 +18,13 @@ use rows::table;
 // The lowest bits of the modifiers.
 const LOWS: [u64; MODIFIERS] = [8, 10, 11, 24, 26, 28, 30, 32, 34, 35, 36, 37, 38, 39];
 
-// The lowest bit of a modifier.
-fn modifier_low(j: usize) -> u64
-    requires { j < 14 }
-    ensures { (result ≡ get_or modifier_lows j 0) × (result < 40) }
-{
-    LOWS[j]
-}
-
 // The modifiers, as they stand in a word.
 pub(crate) fn modifiers_word(m: [u8; MODIFIERS]) -> u64
     ensures { (result ≡ modifier_word m) × (result < 2 ^ 51) }
 {
     let mut w = 0;
-    let mut j = 0;
-    while j < MODIFIERS {
-        w += wide(m[j]) << modifier_low(j);
-        j += 1;
+    for j in 0..MODIFIERS {
+        w += u64::from(m[j]) << LOWS[j];
     }
     w
 }
@@ -44,7 +33,7 @@ pub(crate) fn modifiers_word(m: [u8; MODIFIERS]) -> u64
 pub(crate) fn sources_word(s: Sources) -> u64
     ensures { (result ≡ little (source_list s)) × (result < 2 ^ 32) }
 {
-    wide(s.s0) + 256 * (wide(s.s1) + 256 * (wide(s.s2) + 256 * wide(s.s3)))
+    u64::from(u32::from_le_bytes([s.s0, s.s1, s.s2, s.s3]))
 }
 
 // A row's opcodes, as they stand in its words.
@@ -60,10 +49,10 @@ fn heads_word(i: Instruction) -> u64
     requires { (i.page < 4) × (i.flow < 16) × (i.register < 64) × (i.half_mask < 4) }
     ensures { result ≡ i.register * 2 ^ 40 + i.half_mask * 2 ^ 46 + i.page * 2 ^ 57 + i.flow * 2 ^ 59 }
 {
-    (wide(i.register) << 40)
-        + (wide(i.half_mask) << 46)
-        + (wide(i.page) << 57)
-        + (wide(i.flow) << 59)
+    (u64::from(i.register) << 40)
+        + (u64::from(i.half_mask) << 46)
+        + (u64::from(i.page) << 57)
+        + (u64::from(i.flow) << 59)
 }
 
 // The word that a record says. The row is its row.

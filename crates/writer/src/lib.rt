@@ -3,13 +3,15 @@
 
 ghost use Rattle.std.specs.Prelude.{◌≡◌};
 ghost use Rattle.bits.specs.Outcomes.{refuses};
+ghost use Rattle.reasons.specs.Numbers.{number_of};
 ghost use Rattle.record.specs.Answers.{refusal};
 ghost use Rattle.writer.specs.Answers.{writing};
 ghost use Rattle.writing.specs.Writer.{write, stored};
 
 use bits::bytes::store64;
-use judge::{judge_word, refusal_of};
+use judge::judge_word;
 use reader::read_number;
+use reasons::Reason;
 use record::answer::Refusal;
 use record::instruction::Instruction;
 use rows::table;
@@ -18,9 +20,10 @@ use wordparts::room::numbers_fit;
 use wordparts::word::word_of;
 
 // A refusal that names no place.
-fn refused(number: u8) -> Result<(), Refusal>
-    ensures { writing result ≡ refuses (refusal number 0) }
+fn refused(reason: Reason) -> Result<(), Refusal>
+    ensures { writing result ≡ refuses (refusal (number_of reason) 0) }
 {
+    let number = reason.number();
     Err(Refusal { number, place: 0 })
 }
 
@@ -30,24 +33,20 @@ pub fn write_buffer(i: Instruction, buffer: &mut [u8]) -> Result<(), Refusal>
     ensures kept { buffer.new ≡ stored i buffer.old }
 {
     if buffer.len() != 8 {
-        return refused(8);
+        return refused(Reason::RoomLength);
     }
     if Instruction::ROWS <= i.row as usize {
-        return refused(2);
+        return refused(Reason::NoRow);
     }
     let v = table::row_at(i.row as usize);
     if !numbers_fit(v, i) {
-        return refused(9);
+        return refused(Reason::NoRoom);
     }
     let w = word_of(v, i);
-    match judge_word(w) {
-        Err(code) => Err(refusal_of(code)),
-        Ok(_) => {
-            if !is_record(read_number(w), i) {
-                return refused(15);
-            }
-            store64(w, buffer);
-            Ok(())
-        }
+    judge_word(w)?;
+    if !is_record(read_number(w), i) {
+        return refused(Reason::NotTheSame);
     }
+    store64(w, buffer);
+    Ok(())
 }

@@ -13,6 +13,11 @@ use Rattle.judge.proofs.judge_word.Goals as goal
 Led : ℕ → (Option Line) → Type 0
 Led w f = f ≡ option_map line_of (row_for w)
 
+pub returns-in_default : goal.returns-in_default
+unfolding Led
+returns-in_default c =
+    subst (Judges c.args.w) (sym c.refuse.ensures) (none_fits c.args.w (subst (Led c.args.w) c.in_default.is c.line_of.ensures.answer))
+
 pub judge_fields-requires : goal.judge_fields-requires
 unfolding Led
 judge_fields-requires c =
@@ -22,15 +27,10 @@ pub lowest_stray-requires : goal.lowest_stray-requires
 unfolding Led
 lowest_stray-requires c = line_fitted c.args.w (subst (Led c.args.w) c.in-Some.is c.line_of.ensures.answer)
 
-pub returns-else-w-l : goal.returns-else-w-l
+pub returns : goal.returns
 unfolding Led
-returns-else-w-l c =
+returns c =
     let hw : c.args.w < 2 ^ 64 = search rules in
     let f = line_fitted c.args.w (subst (Led c.args.w) c.in-Some.is c.line_of.ensures.answer) in
-    subst (Judges c.args.w) (sym (c.refuse.ensures ∙ ap (refused 3) c.lowest_stray.ensures))
+    subst (Judges c.args.w) (sym (c.refuse-2.ensures ∙ ap (refused 3) c.lowest_stray.ensures))
     (stray_there c.args.w hw _ f c.if-w-l.false)
-
-pub returns-in-None : goal.returns-in-None
-unfolding Led
-returns-in-None c =
-    subst (Judges c.args.w) (sym c.refuse-in-None.ensures) (none_fits c.args.w (subst (Led c.args.w) c.in-None.is c.line_of.ensures.answer))

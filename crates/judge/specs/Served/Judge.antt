@@ -17,12 +17,9 @@ use Rattle.lookup.specs.declared.Line.{Line}
 use Rattle.reading.specs.Reader.{read_number}
 use Rattle.judge.specs.declared.Fit.{Fit}
 
--- a refusal as one number, and the refusal that it stands for
-abbrev pub refused : ℕ → ℕ → Result Fit ℕ
-refused n p = Err (n + 256 * p)
-
-abbrev pub refusal_of : ℕ → Refusal
-refusal_of c = refusal (bits c 0 8) (bits c 8 8)
+-- a word that is refused
+abbrev pub refused : ℕ → ℕ → Result Fit Refusal
+refused n p = Err (refusal n p)
 
 -- l is the line of the row that the word fits
 pub record Fitted (w : ℕ) (l : Line) : Type 0 where
@@ -46,12 +43,12 @@ pub record Known (k w : ℕ) (f : Fit) : Type 0 where
   pub mask : bits w 46 2 ≡ number_in k w mask_place
 
 -- the judgement is what reading the word gives
-abbrev pub Judges : ℕ → (Result Fit ℕ) → Type 0
+abbrev pub Judges : ℕ → (Result Fit Refusal) → Type 0
 Judges w (Ok f) = (k : ℕ) × (Known k w f × (read_number w ≡ gives (instruction_of k w)))
-Judges w (Err c) = read_number w ≡ refuses (refusal_of c)
+Judges w (Err f) = read_number w ≡ refuses f
 
 -- what is known stays, if the four sources are legal on the word's page
-unfoldable pub judged_sources : Fit → ℕ → Result Fit ℕ
+unfoldable pub judged_sources : Fit → ℕ → Result Fit Refusal
 judged_sources f w =
     choose (source_legal (bits w 57 2) (bits f.sources 0 8))
     (choose (source_legal (bits w 57 2) (bits f.sources 8 8))

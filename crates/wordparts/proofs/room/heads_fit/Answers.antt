@@ -18,8 +18,8 @@ overflow_add-result c =
     let there = 1 - c.bits_at-there.result in
     omega (
       arith,
-      shr_le c.wide-3.result (6 * there),
-      shr_le c.wide-4.result (2 * there),
+      shr_le c.from-3.result (6 * there),
+      shr_le c.from-4.result (2 * there),
       shr_le c.offset_number.result (27 * c.bits_at-far.result),
       offset_small _ c.offset_number.ensures,
     )
@@ -31,9 +31,9 @@ returns c =
     heads_room i.row c.requires.1 (c.bits_at-there.ensures.0 ∙ ap (λ (x : ℕ). bits x 47 1) c.requires.0)
     (c.bits_at-far.ensures.0 ∙ ap (λ (x : ℕ). bits x 32 1) c.requires.0) _ _ _ _ _
     ∙ (λ j. room (row_of i.row) head_places
-    (c.wide.ensures.0 j
-    ∷ c.wide-2.ensures.0 j
-    ∷ c.wide-3.ensures.0 j
-    ∷ c.wide-4.ensures.0 j
+    (c.from.ensures j
+    ∷ c.from-2.ensures j
+    ∷ c.from-3.ensures j
+    ∷ c.from-4.ensures j
     ∷ (c.offset_number.ensures ∙ ap offset_number back) j
     ∷ []))

@@ -5,22 +5,13 @@ use Rattle.wordparts.proofs.room.modifiers_fit.Goals as goal
 
 pub returns-then-not-has_room : goal.returns-then-not-has_room
 returns-then-not-has_room c =
-    let s = c.args in
-    narrow_miss s.widths s.m c.loop-j.j (omega arith) c.has_room.ensures
-    c.wide.ensures.0 c.bits_at.ensures.0
-    (c.if-not-has_room.true)
-    ∙ c.loop-j.invariant.1
+    narrow_miss c.args.widths c.args.m c.loop-j.j (omega arith) c.has_room.ensures c.from.ensures c.bits_at.ensures.0 c.if-not-has_room.true
+    ∙ c.loop-j.invariant
 
 pub loop-j-preserved : goal.loop-j-preserved
 loop-j-preserved c =
-    let s = c.args in
-    let e =
-    narrow_hit s.widths s.m c.loop-j.j (omega arith) c.has_room.ensures
-    c.wide.ensures.0 c.bits_at.ensures.0 (c.if-not-has_room.false)
-    in
-    (omega arith, e ∙ c.loop-j.invariant.1)
+    narrow_hit c.args.widths c.args.m c.loop-j.j (omega arith) c.has_room.ensures c.from.ensures c.bits_at.ensures.0 c.if-not-has_room.false
+    ∙ c.loop-j.invariant
 
 pub returns : goal.returns
-returns c =
-    let s = c.args in
-    narrow_end s.widths s.m c.loop-j.j (omega arith) ∙ c.loop-j.invariant.1
+returns c = narrow_end c.args.widths c.args.m c.loop-j.j (omega arith) ∙ c.loop-j.invariant

@@ -4,4 +4,4 @@ use Rattle.wordparts.proofs.word.sources_word.Goals as goal
 
 pub returns : goal.returns
 unfolding little
-returns c = (omega arith, omega arith)
+returns c = (omega (arith, c.from.ensures, c.from_le_bytes.ensures), omega (arith, c.from.ensures))
