@@ -39,14 +39,19 @@ module _ (f : ℤ → Judgement) (x : Instruction) (i : ℕ) where
   unfolding successors each
   at_end e = rw e
 
-  module _ (e : ends x ≡ false) {a : Judgement} (p : a ≡ f (pos (i + 1))) where
-    pub at_next : branches x ≡ false → a ≡ each f (successors x i)
-    unfolding successors each
-    at_next b = p ∙ rw (e, b) (sym (then_none (f (pos (i + 1)))))
+  module _ (e : ends x ≡ false) where
+    pub at_refused : {r : Finding} → refuses r ≡ f (pos (i + 1)) → refuses r ≡ each f (successors x i)
+    unfolding successors each ◌then◌
+    at_refused q = rw (e, ← q) refl
 
-    pub at_branch : branches x ≡ true → {c : Judgement} → c ≡ f (pos (i + 1) +ℤ x.offset) → (a then c) ≡ each f (successors x i)
-    unfolding successors each
-    at_branch b {c} q = rw (p, q, e, b, then_none (f (pos (i + 1) +ℤ x.offset)))
+    module _ (p : passes ≡ f (pos (i + 1))) where
+      pub at_next : branches x ≡ false → passes ≡ each f (successors x i)
+      unfolding successors each ◌then◌
+      at_next b = rw (e, b, ← p) refl
+
+      pub at_branch : branches x ≡ true → {c : Judgement} → c ≡ f (pos (i + 1) +ℤ x.offset) → c ≡ each f (successors x i)
+      unfolding successors each ◌then◌
+      at_branch b {c} q = q ∙ rw (e, b, ← p) (sym (then_none (f (pos (i + 1) +ℤ x.offset))))
 
 -- all words before index i read
 module _ (words : List ℕ) where
