@@ -65,6 +65,9 @@ module _ (words : List ℕ) where
     unread b l e q = q ∙ sym (then_refused b (first_stop (judge_word words) i n l h (sym (ap (judge_reading i) e))))
 
     -- all n read
+    pub read_all : i ≡ n → passes ≡ first (judge_word words) n
+    read_all q = sym (ap (first (judge_word words)) (sym q) ∙ h)
+
     pub ended : (b : Judgement) → i ≡ n → b ≡ (first (judge_word words) n then b)
     ended b q = sym (then_passed b (ap (first (judge_word words)) (sym q) ∙ h))
 
