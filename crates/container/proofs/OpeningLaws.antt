@@ -30,21 +30,21 @@ both false b e = absurd (let z : ◌≡◌ {A = ℕ} 0 1 = cc in omega arith)
 pub length_part : (s : List ℕ) (start k : ℕ) → start + k ≤ length s → length (part s start k) ≡ k
 length_part s start k h = simp (length-take, length-drop) (omega arith)
 
-little_two : (b : List ℕ) → little (take 2 b) ≡ get_or b 0 0 + 256 * get_or b 1 0
+little_two : (b : List ℕ) → little (take 2 b) ≡ get_or b 0 0 + get_or b 1 0 * 256
 unfolding little
 little_two [] = refl
 little_two (x ∷ []) = refl
 little_two (x ∷ (y ∷ b)) = omega arith
 
 -- a 16-bit number, byte by byte
-number_two : (s : List ℕ) (start : ℕ) → number s start 2 ≡ get_or s start 0 + 256 * get_or s (start + 1) 0
+number_two : (s : List ℕ) (start : ℕ) → number s start 2 ≡ get_or s start 0 + get_or s (start + 1) 0 * 256
 number_two s start = little_two (drop start s) ∙ simp (get_or-drop, add-zero)
 
-pub version_two : (s : List ℕ) → version_of s ≡ get_or s 3 0 + 256 * get_or s 4 0
+pub version_two : (s : List ℕ) → version_of s ≡ get_or s 3 0 + get_or s 4 0 * 256
 unfolding version_of
 version_two s = number_two s 3
 
-pub count_two : (s : List ℕ) → count_of s ≡ get_or s 6 0 + 256 * get_or s 7 0
+pub count_two : (s : List ℕ) → count_of s ≡ get_or s 6 0 + get_or s 7 0 * 256
 unfolding count_of
 count_two s = number_two s 6
 

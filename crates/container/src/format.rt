@@ -2,11 +2,13 @@
 ghost use Rattle.std.specs.Prelude.{◌≡◌, ◌<◌};
 ghost use Rattle.container.specs.Formats.{known, format_of, container_length};
 
-use crate::layout::WORD_LENGTH;
+use crate::layout::{
+    LONGEST_ANNOTATION, LONGEST_HEADER, MOST_INSTRUCTIONS, SHORTEST_HEADER, WORD_LENGTH,
+};
 
 // The lengths of a header and of an annotation in bytes; how far after the set of the low halves that of the high halves stands, in both;
 // and the most instructions.
-#[derive(Clone, Copy)]
+#[derive(Clone, Copy, Debug, PartialEq, Eq)]
 pub struct Format {
     pub header: usize,
     pub annotation: usize,
@@ -15,6 +17,7 @@ pub struct Format {
 }
 
 // Whether there is such a version.
+#[tactic(auto, unfolding(crate::specs::Formats::known))]
 pub fn known(version: u64) -> bool
     ensures { result ≡ known version }
 {
@@ -22,22 +25,23 @@ pub fn known(version: u64) -> bool
 }
 
 // The format of a version; that of version 1 where there is no such version.
+#[tactic(auto, unfolding(crate::specs::Formats::format_of))]
 pub fn format_of(version: u64) -> Format
     ensures { result ≡ format_of version }
 {
-    if version == 2 {
-        return Format {
-            header: 24,
-            annotation: 16,
+    match version {
+        2 => Format {
+            header: LONGEST_HEADER,
+            annotation: LONGEST_ANNOTATION,
             high: 8,
-            most: 2048,
-        };
-    }
-    Format {
-        header: 16,
-        annotation: 8,
-        high: 0,
-        most: 2048,
+            most: MOST_INSTRUCTIONS,
+        },
+        _ => Format {
+            header: SHORTEST_HEADER,
+            annotation: 8,
+            high: 0,
+            most: MOST_INSTRUCTIONS,
+        },
     }
 }
 

@@ -5,16 +5,10 @@ ghost use Rattle.container.specs.Container.{marked, number, version_of};
 ghost use Rattle.container.specs.Opening.{opening_outcome, open_outcome};
 
 use crate::format::{container_length, format_of, known};
-use crate::layout::SHORTEST_HEADER;
-use bits::bytes::{load64, wide};
+use crate::layout::{ENTRY, FEWEST, SHORTEST_HEADER};
+use bits::bytes::load64;
 use bits::halves::Halves;
 use reasons::Reason;
-
-// Where the entry set begins.
-const ENTRY: usize = 8;
-
-// The fewest instructions of a container.
-const FEWEST: usize = 1;
 
 // The version, how many instructions there are, and the entry set: the halves of registers that are defined before the first.
 #[derive(Clone, Copy, Debug, PartialEq, Eq)]
@@ -24,27 +18,21 @@ pub struct Header {
     pub entry: Halves,
 }
 
-// A 16-bit number, the low byte first.
-fn number16(low: u8, high: u8) -> u64
-    ensures { (result ≡ low + 256 * high) × (result < 65536) }
-{
-    wide(low) + 256 * wide(high)
-}
-
 // Whether the mark stands at the front.
 fn has_mark(bytes: &[u8]) -> bool
     requires { shortest_header ≤ length bytes.now }
     ensures { result ≡ marked bytes.now }
 {
-    bytes[0] == b'V' && bytes[1] == b'S' && bytes[2] == b'P'
+    bytes.starts_with(b"VSP")
 }
 
 // The version that the bytes carry, whether there is such a version or not.
+#[tactic(auto, using(crate::proofs::OpeningLaws::version_two))]
 pub fn version_in(bytes: &[u8]) -> u64
     requires { shortest_header ≤ length bytes.now }
     ensures { result ≡ version_of bytes.now }
 {
-    number16(bytes[3], bytes[4])
+    u64::from(u16::from_le_bytes([bytes[3], bytes[4]]))
 }
 
 // The set of halves from `start` on, with that of the high halves `high` bytes after that of the low ones.
@@ -52,12 +40,11 @@ pub fn halves_in(bytes: &[u8], start: usize, high: usize) -> Halves
     requires { start + high + 8 ≤ length bytes.now }
     ensures { result ≡ halves (number bytes.now start 8) (number bytes.now (start + high) 8) }
 {
-    let low_end = start + 8;
     let high_start = start + high;
-    let high_end = high_start + 8;
-    let low = load64(&bytes[start..low_end]);
-    let high = load64(&bytes[high_start..high_end]);
-    Halves { low, high }
+    Halves {
+        low: load64(&bytes[start..start + 8]),
+        high: load64(&bytes[high_start..high_start + 8]),
+    }
 }
 
 // Opens a container. No word is looked at.
@@ -77,7 +64,7 @@ pub fn open(bytes: &[u8]) -> Result<Header, Reason>
     if bytes[5] != 0 {
         return Err(Reason::NotZero);
     }
-    let count = number16(bytes[6], bytes[7]) as usize;
+    let count = usize::from(u16::from_le_bytes([bytes[6], bytes[7]]));
     if count < FEWEST {
         return Err(Reason::WrongLength);
     }
@@ -88,10 +75,9 @@ pub fn open(bytes: &[u8]) -> Result<Header, Reason>
     if bytes.len() != container_length(version, count) {
         return Err(Reason::WrongLength);
     }
-    let entry = halves_in(bytes, ENTRY, f.high);
     Ok(Header {
         version,
         count,
-        entry,
+        entry: halves_in(bytes, ENTRY, f.high),
     })
 }

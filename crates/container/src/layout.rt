@@ -8,7 +8,12 @@ pub const LONGEST_HEADER: usize = 24;
 
 pub const LONGEST_ANNOTATION: usize = 16;
 
-// No version has more instructions.
+// Where the entry set begins, in any version.
+pub const ENTRY: usize = 8;
+
+// No version has fewer instructions, or more.
+pub const FEWEST: usize = 1;
+
 pub const MOST_INSTRUCTIONS: usize = 2048;
 
 pub const LONGEST_CONTAINER: usize = LONGEST_HEADER

@@ -8,33 +8,24 @@ use crate::layout::WORD_LENGTH;
 pub fn words(bytes: &[u8]) -> &[u8]
     ensures { Words bytes.entry result }
 {
-    match open(bytes) {
-        Ok(header) => {
-            let f = format_of(header.version);
-            let start = f.header;
-            let end = start + WORD_LENGTH * header.count;
-            return &bytes[start..end];
-        }
-        Err(_) => {
-            return &bytes[..0];
-        }
-    }
+    let Ok(header) = open(bytes) else {
+        return &bytes[..0];
+    };
+    let start = format_of(header.version).header;
+    let end = start + WORD_LENGTH * header.count;
+    &bytes[start..end]
 }
 
 // The annotations (the paper's notes), as the part of the lent bytes where they stand; an empty part where they do not open.
 pub fn annotations(bytes: &[u8]) -> &[u8]
     ensures { Annotations bytes.entry result }
 {
-    match open(bytes) {
-        Ok(header) => {
-            let n = header.count;
-            let f = format_of(header.version);
-            let start = f.header + WORD_LENGTH * n;
-            let end = start + f.annotation * n;
-            return &bytes[start..end];
-        }
-        Err(_) => {
-            return &bytes[..0];
-        }
-    }
+    let Ok(header) = open(bytes) else {
+        return &bytes[..0];
+    };
+    let n = header.count;
+    let f = format_of(header.version);
+    let start = f.header + WORD_LENGTH * n;
+    let end = start + f.annotation * n;
+    &bytes[start..end]
 }

@@ -11,24 +11,16 @@ use bits::halves::{Halves, both};
 use bits::sets::missing;
 use container::format::format_of;
 use container::header::halves_in;
+use reasons::Reason;
 use record::instruction::Instruction;
 use safety::verdict::{Verdict, none_missing, refused};
 
-// The numbers of the refusals, by reason.
-const READ_MISSING: u8 = 20;
-
-const SUCCESSOR_OUTSIDE: u8 = 21;
-
-const SUCCESSOR_MISSING: u8 = 22;
-
 // What an instruction makes defined, by version.
+#[tactic(auto, unfolding(safety::specs::Program::fills))]
 pub fn fills(version: u64, x: Instruction) -> Halves
     ensures { result ≡ fills version x }
 {
-    if version == 1 {
-        return both(x.defines());
-    }
-    x.writes()
+    if version == 1 { both(x.defines()) } else { x.writes() }
 }
 
 // What is defined after an instruction before which `held` is.
@@ -37,9 +29,10 @@ fn after(version: u64, x: Instruction, kills: u64, held: Halves) -> Halves
     ensures { result ≡ after version x held }
 {
     let f = fills(version, x);
-    let low = missing(held.low, kills) | f.low;
-    let high = missing(held.high, kills) | f.high;
-    Halves { low, high }
+    Halves {
+        low: missing(held.low, kills) | f.low,
+        high: missing(held.high, kills) | f.high,
+    }
 }
 
 // The index i + 1 + offset, or n where that is outside 0 to n - 1.
@@ -70,56 +63,49 @@ pub fn annotation_at(version: u64, annotations: &[u8], n: usize, i: usize) -> Ha
     halves_in(annotations, f.annotation * i, f.high)
 }
 
-// Successor j of instruction i, after which `held` is defined.
-fn judge_successor(
+// The annotations of n instructions of a version.
+#[derive(Clone, Copy)]
+struct Notes<'a> {
     version: u64,
-    annotations: &[u8],
+    bytes: &'a [u8],
     n: usize,
-    i: usize,
-    held: Halves,
-    j: usize,
-) -> Verdict
-    requires { Annotated version annotations.now n }
-    ensures { verdict_outcome result ≡ judge_successor n (annotation_at version annotations.now) i held (pos j) }
-{
-    if n <= j {
-        return refused(SUCCESSOR_OUTSIDE, 0, i);
-    }
-    none_missing(
-        SUCCESSOR_MISSING,
-        i,
-        annotation_at(version, annotations, n, j),
-        held,
-    )
+    ghost annotated: { Annotated version bytes.now n },
 }
 
-// The successors of instruction i, the fall-through first, where `before` is defined before it.
-fn judge_successors(
-    version: u64,
-    annotations: &[u8],
-    n: usize,
-    i: usize,
-    x: Instruction,
-    kills: u64,
-    before: Halves,
-) -> Verdict
-    requires { Annotated version annotations.now n × (i < n) × (kills ≡ kills_of x) }
-    ensures { verdict_outcome result ≡ each (judge_successor n (annotation_at version annotations.now) i (after version x before)) (successors x i) }
-{
-    if x.ends() {
-        return Ok(());
+impl<'a> Notes<'a> {
+    // The one at index i.
+    fn at(self, i: usize) -> Halves
+        requires { i < self.n }
+        ensures { result ≡ annotation_at self.entry.version self.entry.bytes.now i }
+    {
+        annotation_at(self.version, self.bytes, self.n, i)
     }
-    let held = after(version, x, kills, before);
-    let next = judge_successor(version, annotations, n, i, held, i + 1);
-    if !x.branches() {
-        return next;
-    }
-    match next {
-        Ok(()) => {
-            let j = branch_target(i, x.offset, n);
-            judge_successor(version, annotations, n, i, held, j)
+
+    // Successor j of instruction i, after which `held` is defined.
+    fn judge_successor(self, i: usize, held: Halves, j: usize) -> Verdict
+        ensures { verdict_outcome result ≡ judge_successor self.entry.n (annotation_at self.entry.version self.entry.bytes.now) i held (pos j) }
+    {
+        if self.n <= j {
+            return refused(Reason::SuccessorOutside as u8, 0, i);
         }
-        Err(f) => Err(f),
+        none_missing(Reason::SuccessorMissing as u8, i, self.at(j), held)
+    }
+
+    // The successors of instruction i, the fall-through first, where `before` is defined before it.
+    fn judge_successors(self, i: usize, x: Instruction, kills: u64, before: Halves) -> Verdict
+        requires { (i < self.n) × (kills ≡ kills_of x) }
+        ensures { verdict_outcome result ≡ each (judge_successor self.entry.n (annotation_at self.entry.version self.entry.bytes.now) i (after self.entry.version x before)) (successors x i) }
+    {
+        if x.ends() {
+            return Ok(());
+        }
+        let held = after(self.version, x, kills, before);
+        self.judge_successor(i, held, i + 1)?;
+        if !x.branches() {
+            return Ok(());
+        }
+        let j = branch_target(i, x.offset, self.n);
+        self.judge_successor(i, held, j)
     }
 }
 
@@ -128,14 +114,13 @@ pub fn judge_flow(version: u64, annotations: &[u8], n: usize, i: usize, x: Instr
     requires { Annotated version annotations.now n × (i < n) }
     ensures { verdict_outcome result ≡ judge_flow version n (annotation_at version annotations.now) i x }
 {
-    let before = annotation_at(version, annotations, n, i);
+    let notes = Notes {
+        version,
+        bytes: annotations,
+        n,
+    };
+    let before = notes.at(i);
     let u = x.uses();
-    let missed = none_missing(READ_MISSING, i, both(u.reads), before);
-    match missed {
-        Ok(()) => {
-            let kills = u.kills;
-            judge_successors(version, annotations, n, i, x, kills, before)
-        }
-        Err(f) => Err(f),
-    }
+    none_missing(Reason::ReadMissing as u8, i, both(u.reads), before)?;
+    notes.judge_successors(i, x, u.kills, before)
 }

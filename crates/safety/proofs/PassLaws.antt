@@ -39,14 +39,19 @@ module _ (f : ℤ → Judgement) (x : Instruction) (i : ℕ) where
   unfolding successors each
   at_end e = rw e
 
-  module _ (e : ends x ≡ false) {a : Judgement} (p : a ≡ f (pos (i + 1))) where
-    pub at_next : branches x ≡ false → a ≡ each f (successors x i)
-    unfolding successors each
-    at_next b = p ∙ rw (e, b) (sym (then_none (f (pos (i + 1)))))
+  module _ (e : ends x ≡ false) where
+    pub at_refused : {r : Finding} → refuses r ≡ f (pos (i + 1)) → refuses r ≡ each f (successors x i)
+    unfolding successors each ◌then◌
+    at_refused q = rw (e, ← q) refl
 
-    pub at_branch : branches x ≡ true → {c : Judgement} → c ≡ f (pos (i + 1) +ℤ x.offset) → (a then c) ≡ each f (successors x i)
-    unfolding successors each
-    at_branch b {c} q = rw (p, q, e, b, then_none (f (pos (i + 1) +ℤ x.offset)))
+    module _ (p : passes ≡ f (pos (i + 1))) where
+      pub at_next : branches x ≡ false → passes ≡ each f (successors x i)
+      unfolding successors each ◌then◌
+      at_next b = rw (e, b, ← p) refl
+
+      pub at_branch : branches x ≡ true → {c : Judgement} → c ≡ f (pos (i + 1) +ℤ x.offset) → c ≡ each f (successors x i)
+      unfolding successors each ◌then◌
+      at_branch b {c} q = q ∙ rw (e, b, ← p) (sym (then_none (f (pos (i + 1) +ℤ x.offset))))
 
 -- all words before index i read
 module _ (words : List ℕ) where
@@ -60,6 +65,9 @@ module _ (words : List ℕ) where
     unread b l e q = q ∙ sym (then_refused b (first_stop (judge_word words) i n l h (sym (ap (judge_reading i) e))))
 
     -- all n read
+    pub read_all : i ≡ n → passes ≡ first (judge_word words) n
+    read_all q = sym (ap (first (judge_word words)) (sym q) ∙ h)
+
     pub ended : (b : Judgement) → i ≡ n → b ≡ (first (judge_word words) n then b)
     ended b q = sym (then_passed b (ap (first (judge_word words)) (sym q) ∙ h))
 

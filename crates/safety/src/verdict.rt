@@ -3,7 +3,7 @@ ghost use Rattle.std.specs.Prelude.{◌≡◌, ◌<◌};
 ghost use Rattle.bits.specs.Sets.{lowest as lowest_of};
 ghost use Rattle.bits.specs.Halves.{either as either_of};
 ghost use Rattle.bits.specs.Outcomes.{refuses};
-ghost use Rattle.safety.specs.Verdict.{finding, plain, verdict_outcome, reported, lowest_half, none_of, none_missing};
+ghost use Rattle.safety.specs.Verdict.{plain, verdict_outcome, reported, lowest_half, none_of, none_missing};
 
 use bits::fields::bits_at;
 use bits::halves::{Halves, either, missing_halves};
@@ -33,19 +33,6 @@ pub type Verdict = Result<(), Finding>;
 // The register of a finding where none is at fault.
 pub const NO_REGISTER: u32 = 64;
 
-// A refusal.
-fn refused_at(number: u8, index: usize, register: u32, half: Reported) -> Verdict
-    ensures { verdict_outcome result ≡ refuses (finding number 0 index register half) }
-{
-    Err(Finding {
-        number,
-        place: 0,
-        index,
-        register,
-        half,
-    })
-}
-
 // A refusal that names no register.
 pub fn plain(number: u8, place: u8, index: usize) -> Finding
     ensures { result ≡ plain number place index }
@@ -70,10 +57,7 @@ fn half_told(s: Halves, r: u32) -> Reported
     requires { (r ≡ lowest_of (either_of s)) × (r < 64) }
     ensures { result ≡ reported (lowest_half s) }
 {
-    if bits_at(s.low, r as u64, 1) == 1 {
-        return Reported::Low;
-    }
-    Reported::High
+    if bits_at(s.low, u64::from(r), 1) == 1 { Reported::Low } else { Reported::High }
 }
 
 // Refused with `number` at instruction `index` for the lowest of some halves, if there are any.
@@ -85,7 +69,13 @@ fn none_of(number: u8, index: usize, s: Halves) -> Verdict
         return Ok(());
     }
     let r = lowest(any);
-    refused_at(number, index, r, half_told(s, r))
+    Err(Finding {
+        number,
+        place: 0,
+        index,
+        register: r,
+        half: half_told(s, r),
+    })
 }
 
 // Refused with `number` at instruction `index` where a half in `named` is missing from `held`.

@@ -8,7 +8,7 @@ ghost use Rattle.safety.specs.Verdict.{verdict_outcome, verdict_of, all_read};
 ghost use Rattle.safety.specs.Demand3.{Demand3At};
 ghost use Rattle.safety.specs.Reasons.{Grounded};
 
-use crate::program::{judge_words, read_from};
+use crate::program::{Words, judge_words};
 use container::header::open;
 use container::parts::{annotations, words};
 use safety::verdict::{Verdict, refused};
@@ -22,15 +22,14 @@ pub fn verify(bytes: &[u8]) -> Verdict
     ensures reason { Grounded bytes.now (verdict_outcome result) }
 {
     match open(bytes) {
-        Ok(header) => {
-            let n = header.count;
-            let entry = header.entry;
-            let notes = annotations(bytes);
-            return judge_words(header.version, words(bytes), notes, n, entry);
-        }
-        Err(reason) => {
-            return refused(reason.number(), 0, 0);
-        }
+        Ok(header) => judge_words(
+            header.version,
+            words(bytes),
+            annotations(bytes),
+            header.count,
+            header.entry,
+        ),
+        Err(reason) => refused(reason.number(), 0, 0),
     }
 }
 
@@ -40,11 +39,12 @@ pub fn read_all(bytes: &[u8]) -> Verdict
 {
     match open(bytes) {
         Ok(header) => {
-            let n = header.count;
-            return read_from(words(bytes), n, 0);
+            let words = Words {
+                bytes: words(bytes),
+                n: header.count,
+            };
+            words.read_from(0)
         }
-        Err(unopened) => {
-            return refused(unopened.number(), 0, 0);
-        }
+        Err(unopened) => refused(unopened.number(), 0, 0),
     }
 }

@@ -12,12 +12,10 @@ use bits::halves::Halves;
 use codec::read_word;
 use container::layout::WORD_LENGTH;
 use flow::{annotation_at, judge_flow};
+use reasons::Reason;
 use record::answer::Refusal;
 use record::instruction::Instruction;
 use safety::verdict::{Finding, Verdict, none_missing, refused};
-
-// The number of the refusal where the first annotation names what is not defined at entry.
-const ENTRY_MISSING: u8 = 23;
 
 // The word at index i, read.
 pub fn reading_at(words: &[u8], n: usize, i: usize) -> Result<Instruction, Refusal>
@@ -25,66 +23,59 @@ pub fn reading_at(words: &[u8], n: usize, i: usize) -> Result<Instruction, Refus
     ensures { reading result ≡ read (eight words.now i) }
 {
     let start = WORD_LENGTH * i;
-    let end = start + WORD_LENGTH;
-    read_word(&words[start..end])
+    read_word(&words[start..start + WORD_LENGTH])
 }
 
-// The first refusal of a word from index `from` on, where all before read.
-pub(crate) fn read_from(words: &[u8], n: usize, from: usize) -> Verdict
-    requires { Worded words.now n × (from ≤ n) × (first (judge_word words.now) from ≡ passes) }
-    ensures { verdict_outcome result ≡ first (judge_word words.now) n }
-{
-    let mut i = from;
-    while i < n {
-        let r = reading_at(words, n, i);
-        match r {
-            Ok(_) => {}
-            Err(x) => {
-                return refused(x.number, x.place, i);
+// n words.
+#[derive(Clone, Copy)]
+pub(crate) struct Words<'a> {
+    pub(crate) bytes: &'a [u8],
+    pub(crate) n: usize,
+    ghost worded: { Worded bytes.now n },
+}
+
+impl<'a> Words<'a> {
+    // The first refusal of a word from index `from` on, where all before read.
+    pub(crate) fn read_from(self, from: usize) -> Verdict
+        requires { (from ≤ self.n) × (first (judge_word self.bytes.now) from ≡ passes) }
+        ensures { verdict_outcome result ≡ first (judge_word self.entry.bytes.now) self.entry.n }
+    {
+        for i in from..self.n {
+            if let Err(unread) = reading_at(self.bytes, self.n, i) {
+                return refused(unread.number, unread.place, i);
             }
         }
-        i += 1;
+        Ok(())
     }
-    Ok(())
-}
 
-// The same, and else the refusal f.
-fn unreadable_from(words: &[u8], n: usize, from: usize, f: Finding) -> Verdict
-    requires { Worded words.now n × (from ≤ n) × (first (judge_word words.now) from ≡ passes) }
-    ensures { verdict_outcome result ≡ (first (judge_word words.now) n then refuses f) }
-{
-    let v = read_from(words, n, from);
-    match v {
-        Ok(()) => Err(f),
-        Err(x) => Err(x),
+    // The same, and else the refusal f.
+    fn unreadable_from(self, from: usize, f: Finding) -> Verdict
+        requires { (from ≤ self.n) × (first (judge_word self.bytes.now) from ≡ passes) }
+        ensures { verdict_outcome result ≡ (first (judge_word self.entry.bytes.now) self.entry.n then refuses f) }
+    {
+        self.read_from(from)?;
+        Err(f)
     }
-}
 
-// The verdict on the words and, where all of them read, on the instructions one by one.
-fn judge_instructions<'a>(version: u64, words: &'a [u8], annotations: &'a [u8], n: usize) -> Verdict
-    requires { Worded words.now n × Annotated version annotations.now n }
-    ensures { verdict_outcome result ≡ (first (judge_word words.now) n then first (judge_index (program_in version words.now annotations.now n (both 0))) n) }
-{
-    let mut i = 0;
-    while i < n {
-        let r = reading_at(words, n, i);
-        match r {
-            Ok(x) => {
-                let v = judge_flow(version, annotations, n, i, x);
-                match v {
-                    Ok(()) => {}
-                    Err(f) => {
-                        return unreadable_from(words, n, i + 1, f);
+    // The verdict on the words and, where all of them read, on the instructions one by one.
+    fn judge_instructions(self, version: u64, annotations: &'a [u8]) -> Verdict
+        requires { Annotated version annotations.now self.n }
+        ensures { verdict_outcome result ≡ (first (judge_word self.entry.bytes.now) self.entry.n then first (judge_index (program_in version self.entry.bytes.now annotations.now self.entry.n (both 0))) self.entry.n) }
+    {
+        for i in 0..self.n {
+            match reading_at(self.bytes, self.n, i) {
+                Ok(x) => {
+                    if let Err(f) = judge_flow(version, annotations, self.n, i, x) {
+                        return self.unreadable_from(i + 1, f);
                     }
                 }
-            }
-            Err(x) => {
-                return refused(x.number, x.place, i);
+                Err(x) => {
+                    return refused(x.number, x.place, i);
+                }
             }
         }
-        i += 1;
+        Ok(())
     }
-    Ok(())
 }
 
 // The verdict on n words and annotations, before which `entry` is defined. A word that does not read comes before any other refusal.
@@ -98,10 +89,10 @@ pub fn judge_words<'a>(
     requires { Worded words.now n × Annotated version annotations.now n × (0 < n) }
     ensures { verdict_outcome result ≡ (first (judge_word words.now) n then judge_program (program_in version words.now annotations.now n entry)) }
 {
+    let words = Words { bytes: words, n };
     let first = annotation_at(version, annotations, n, 0);
-    let v = none_missing(ENTRY_MISSING, 0, first, entry);
-    match v {
-        Ok(()) => judge_instructions(version, words, annotations, n),
-        Err(f) => unreadable_from(words, n, 0, f),
+    if let Err(f) = none_missing(Reason::EntryMissing as u8, 0, first, entry) {
+        return words.unreadable_from(0, f);
     }
+    words.judge_instructions(version, annotations)
 }

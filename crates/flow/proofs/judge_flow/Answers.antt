@@ -1,33 +1,24 @@
-use mathlib.Core.Path.{◌≡◌, ap, ap₂, ◌∙◌}
+use mathlib.Core.Path.{refl, ap, ap₂, ◌∙◌}
 use Rattle.bits.specs.Halves.{both as both_of}
 use Rattle.bits.specs.declared.halves.Halves.{Halves}
 use Rattle.bits.specs.Outcomes.{each}
-use Rattle.record.specs.Registers.{reads as reads_of}
+use Rattle.bits.proofs.OutcomeLaws.{left_by, stops, goes_on}
 use Rattle.safety.specs.Program.{successors, after, annotation_at}
-use Rattle.safety.specs.Verdict.{verdict_outcome, none_missing, judge_successor, judge_flow}
-use Rattle.safety.proofs.PassLaws.{followed, halted}
+use Rattle.safety.specs.Verdict.{none_missing, judge_successor, judge_flow}
 use Rattle.flow.proofs.judge_flow.Goals as goal
 
-pub returns-in-Ok : goal.returns-in-Ok
+pub returns-in_err-none_missing : goal.returns-in_err-none_missing
 unfolding judge_flow
-returns-in-Ok c =
-    let missed : let a = c.args in
-    verdict_outcome c.none_missing-missed.result ≡ none_missing 20 a.i (both_of (reads_of a.x)) (annotation_at a.version a.annotations.now a.i) = let a = c.args in
-    c.none_missing-missed.ensures
-    ∙ ap₂ (λ (x y : Halves). none_missing 20 a.i x y) (c.both.ensures ∙ ap both_of c.uses-u.ensures.0) c.annotation_at-before.ensures in
+returns-in_err-none_missing c =
     let a = c.args in
-    let m = annotation_at a.version a.annotations.now in
-    followed c.in-Ok.is (missed)
-    (c.judge_successors.ensures
-    ∙ ap (λ (k : Halves). each (judge_successor a.n m a.i (after a.version a.x k)) (successors a.x a.i)) c.annotation_at-before.ensures)
+    rw (left_by _ c.from_residual.ensures, stops _ (c.in_err-none_missing.ensures
+    ∙ ap₂ (λ (x y : Halves). none_missing 20 a.i x y) (c.both.ensures ∙ ap both_of c.uses-u.ensures.0) c.at-before.ensures)) refl
 
-pub returns-in-Err : goal.returns-in-Err
+pub returns : goal.returns
 unfolding judge_flow
-returns-in-Err c =
-    let missed : let a = c.args in
-    verdict_outcome c.none_missing-missed.result ≡ none_missing 20 a.i (both_of (reads_of a.x)) (annotation_at a.version a.annotations.now a.i) = let a = c.args in
-    c.none_missing-missed.ensures
-    ∙ ap₂ (λ (x y : Halves). none_missing 20 a.i x y) (c.both.ensures ∙ ap both_of c.uses-u.ensures.0) c.annotation_at-before.ensures in
+returns c =
     let a = c.args in
     let m = annotation_at a.version a.annotations.now in
-    halted (each (judge_successor a.n m a.i (after a.version a.x (m a.i))) (successors a.x a.i)) c.in-Err.is (missed)
+    rw (goes_on _ (c.in_ok-none_missing.ensures
+    ∙ ap₂ (λ (x y : Halves). none_missing 20 a.i x y) (c.both.ensures ∙ ap both_of c.uses-u.ensures.0) c.at-before.ensures))
+    (c.judge_successors.ensures ∙ ap (λ (k : Halves). each (judge_successor a.n m a.i (after a.version a.x k)) (successors a.x a.i)) c.at-before.ensures)

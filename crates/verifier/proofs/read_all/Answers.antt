@@ -13,12 +13,15 @@ none_before : (f : ℕ → Judgement) → first f 0 ≡ passes
 unfolding first
 none_before f = refl
 
-pub read_from-requires : goal.read_from-requires
-read_from-requires c =
+pub invariant_of-words : goal.invariant_of-words
+invariant_of-words c =
     let opens : open_outcome c.args.bytes.now ≡ gives c.in-Ok.header = opened_by c.open.ensures c.in-Ok.is in
     let are_words : c.words.result.now ≡ words_of c.args.bytes.now = words_contents c.args.bytes c.words.result c.words.ensures (opens) in
     let s = c.args.bytes.now in
-    (worded s c.words.result.now (annotations_of s) c.in-Ok.header (opens) (are_words) refl, omega arith, none_before _)
+    record { worded = worded s c.words.result.now (annotations_of s) c.in-Ok.header (opens) (are_words) refl }
+
+pub read_from-requires : goal.read_from-requires
+read_from-requires c = (omega arith, none_before _)
 
 pub returns-in-Ok : goal.returns-in-Ok
 returns-in-Ok c =

@@ -16,10 +16,10 @@ pub judge_words-requires : goal.judge_words-requires
 judge_words-requires c =
     let opens : open_outcome c.args.bytes.now ≡ gives c.in-Ok.header = opened_by c.open.ensures c.in-Ok.is in
     let are_words : c.words.result.now ≡ words_of c.args.bytes.now = words_contents c.args.bytes c.words.result c.words.ensures (opens) in
-    let are_notes : c.annotations-notes.result.now ≡ annotations_of c.args.bytes.now = annotations_contents c.args.bytes c.annotations-notes.result c.annotations-notes.ensures (opens) in
+    let are_notes : c.annotations.result.now ≡ annotations_of c.args.bytes.now = annotations_contents c.args.bytes c.annotations.result c.annotations.ensures (opens) in
     let s = c.args.bytes.now in
     let w = c.words.result.now in
-    let n = c.annotations-notes.result.now in
+    let n = c.annotations.result.now in
     let h = c.in-Ok.header in
     let z = sized s (opens) in
     (worded s w n h (opens) (are_words) (are_notes), annotated s w n h (opens) (are_words) (are_notes), omega (arith, z.counts, z.some))
@@ -28,9 +28,9 @@ pub returns-in-Ok : goal.returns-in-Ok
 returns-in-Ok c =
     let opens : open_outcome c.args.bytes.now ≡ gives c.in-Ok.header = opened_by c.open.ensures c.in-Ok.is in
     let are_words : c.words.result.now ≡ words_of c.args.bytes.now = words_contents c.args.bytes c.words.result c.words.ensures (opens) in
-    let are_notes : c.annotations-notes.result.now ≡ annotations_of c.args.bytes.now = annotations_contents c.args.bytes c.annotations-notes.result c.annotations-notes.ensures (opens) in
+    let are_notes : c.annotations.result.now ≡ annotations_of c.args.bytes.now = annotations_contents c.args.bytes c.annotations.result c.annotations.ensures (opens) in
     let s = c.args.bytes.now in
-    let e = opened_to s c.words.result.now c.annotations-notes.result.now c.in-Ok.header (opens) (are_words) (are_notes) c.judge_words.ensures in
+    let e = opened_to s c.words.result.now c.annotations.result.now c.in-Ok.header (opens) (are_words) (are_notes) c.judge_words.ensures in
     let t = bytes_below s (λ k. (c.type_inv.bytes k).fits) in
     record { verdict = e; demand = agreed s _ t e; reason = grounded s _ t e }
 

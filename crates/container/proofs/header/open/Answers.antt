@@ -50,7 +50,7 @@ returns-then-count-lt-FEWEST c =
       nought = c.if-bytes-ne0.false;
     } in
     let s = c.args.bytes.now in
-    let n = c.number16-count.ensures.0 ∙ sym (count_two s) in
+    let n = c.from-count.ensures ∙ c.from_le_bytes.ensures ∙ sym (count_two s) in
     no_instruction s (framed) (omega (arith, c.if-count-lt-FEWEST.true))
 
 pub returns-then-f-count : goal.returns-then-f-count
@@ -63,7 +63,7 @@ returns-then-f-count c =
       nought = c.if-bytes-ne0.false;
     } in
     let s = c.args.bytes.now in
-    let n = c.number16-count.ensures.0 ∙ sym (count_two s) in
+    let n = c.from-count.ensures ∙ c.from_le_bytes.ensures ∙ sym (count_two s) in
     let m = ap (λ (f : Format). f.most) c.format_of-f.ensures ∙ ap most_of (version) in
     too_many s (framed) (omega (arith, m, n, c.if-f-count.true))
 
@@ -77,13 +77,13 @@ returns-then-bytes-container_length c =
       nought = c.if-bytes-ne0.false;
     } in
     let s = c.args.bytes.now in
-    let n = c.number16-count.ensures.0 ∙ sym (count_two s) in
+    let n = c.from-count.ensures ∙ c.from_le_bytes.ensures ∙ sym (count_two s) in
     let m = ap (λ (f : Format). f.most) c.format_of-f.ensures ∙ ap most_of (version) in
     wrong_length s (framed) (omega (arith, n, c.if-count-lt-FEWEST.false)) (omega (arith, m, n, c.if-f-count.false))
     (λ e. c.if-bytes-container_length.true (e ∙ ap₂ container_length (sym (version)) (sym n) ∙ sym c.container_length.ensures))
 
-pub halves_in-entry-requires : goal.halves_in-entry-requires
-halves_in-entry-requires c =
+pub halves_in-requires : goal.halves_in-requires
+halves_in-requires c =
     let b = bounded_by _ c.format_of-f.ensures in
     omega (arith, b.high_in_header, c.if-bytes-container_length.false, c.container_length.ensures, ap (λ (f : Format). f.header) c.format_of-f.ensures)
 
@@ -98,10 +98,10 @@ returns c =
       nought = c.if-bytes-ne0.false;
     } in
     let s = c.args.bytes.now in
-    let n = c.number16-count.ensures.0 ∙ sym (count_two s) in
+    let n = c.from-count.ensures ∙ c.from_le_bytes.ensures ∙ sym (count_two s) in
     let v = version in
     let m = ap (λ (f : Format). f.most) c.format_of-f.ensures ∙ ap most_of v in
     let h = ap (λ (f : Format). f.high) c.format_of-f.ensures ∙ ap high_offset v in
-    same v n (c.halves_in-entry.ensures ∙ ap (λ (k : ℕ). halves (number s 8 8) (number s (8 + k) 8)) h)
+    same v n (c.halves_in.ensures ∙ ap (λ (k : ℕ). halves (number s 8 8) (number s (8 + k) 8)) h)
     ∙ opens s (framed) (omega (arith, n, c.if-count-lt-FEWEST.false)) (omega (arith, m, n, c.if-f-count.false))
     (c.if-bytes-container_length.false ∙ c.container_length.ensures ∙ ap₂ container_length v n)

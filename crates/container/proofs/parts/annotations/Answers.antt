@@ -22,7 +22,7 @@ overflow_add-end c =
     let size : Placed c.args.bytes.now c.in-Ok.header c.format_of-f.result = placed c.args.bytes.now (opened_by c.open.ensures c.in-Ok.is) c.format_of-f.ensures in
     let z = size in omega (arith, z.annotations_end)
 
-pub slice_bounds-result-end : goal.slice_bounds-result-end
-slice_bounds-result-end c =
+pub slice_bounds-result-end-2 : goal.slice_bounds-result-end-2
+slice_bounds-result-end-2 c =
     let size : Placed c.args.bytes.now c.in-Ok.header c.format_of-f.result = placed c.args.bytes.now (opened_by c.open.ensures c.in-Ok.is) c.format_of-f.ensures in
     let z = size in omega (arith, z.annotations_end)

@@ -4,15 +4,15 @@ use Rattle.container.proofs.parts.words.Goals as goal
 
 pub overflow_mul-end : goal.overflow_mul-end
 overflow_mul-end c =
-    let size : Placed c.args.bytes.now c.in-Ok.header c.format_of-f.result = placed c.args.bytes.now (opened_by c.open.ensures c.in-Ok.is) c.format_of-f.ensures in
+    let size : Placed c.args.bytes.now c.in-Ok.header c.format_of-start.result = placed c.args.bytes.now (opened_by c.open.ensures c.in-Ok.is) c.format_of-start.ensures in
     let z = size in record { fits = omega (arith, z.few) }
 
 pub overflow_add-end : goal.overflow_add-end
 overflow_add-end c =
-    let size : Placed c.args.bytes.now c.in-Ok.header c.format_of-f.result = placed c.args.bytes.now (opened_by c.open.ensures c.in-Ok.is) c.format_of-f.ensures in
+    let size : Placed c.args.bytes.now c.in-Ok.header c.format_of-start.result = placed c.args.bytes.now (opened_by c.open.ensures c.in-Ok.is) c.format_of-start.ensures in
     let z = size in omega (arith, z.words_end)
 
-pub slice_bounds-result-end : goal.slice_bounds-result-end
-slice_bounds-result-end c =
-    let size : Placed c.args.bytes.now c.in-Ok.header c.format_of-f.result = placed c.args.bytes.now (opened_by c.open.ensures c.in-Ok.is) c.format_of-f.ensures in
+pub slice_bounds-result-end-2 : goal.slice_bounds-result-end-2
+slice_bounds-result-end-2 c =
+    let size : Placed c.args.bytes.now c.in-Ok.header c.format_of-start.result = placed c.args.bytes.now (opened_by c.open.ensures c.in-Ok.is) c.format_of-start.ensures in
     let z = size in omega (arith, z.words_end)

@@ -9,14 +9,14 @@ use Rattle.verifier.proofs.program.judge_words.Goals as goal
 
 pub unreadable_from-requires : goal.unreadable_from-requires
 unfolding first
-unreadable_from-requires c = (c.requires.0, search rules, refl)
+unreadable_from-requires c = (search rules, refl)
 
-pub returns-in-Ok : goal.returns-in-Ok
-returns-in-Ok c =
+pub returns : goal.returns
+returns c =
     let a = c.args in
-    entered a.words.now (program_in a.version a.words.now a.annotations.now a.n a.entry) (c.none_missing-v.ensures ∙ ap (λ (x : Halves). none_missing 23 0 x c.args.entry) c.annotation_at-first.ensures) (ap verdict_outcome c.in-Ok.is) c.judge_instructions.ensures
+    entered a.words.now (program_in a.version a.words.now a.annotations.now a.n a.entry) (c.none_missing.ensures ∙ ap (λ (x : Halves). none_missing 23 0 x a.entry) c.annotation_at-first.ensures) (ap verdict_outcome c.in_default.is) c.judge_instructions.ensures
 
 pub returns-in-Err : goal.returns-in-Err
 returns-in-Err c =
     let a = c.args in
-    barred a.words.now (program_in a.version a.words.now a.annotations.now a.n a.entry) (c.none_missing-v.ensures ∙ ap (λ (x : Halves). none_missing 23 0 x c.args.entry) c.annotation_at-first.ensures) (ap verdict_outcome c.in-Err.is) c.unreadable_from.ensures
+    barred a.words.now (program_in a.version a.words.now a.annotations.now a.n a.entry) (c.none_missing.ensures ∙ ap (λ (x : Halves). none_missing 23 0 x a.entry) c.annotation_at-first.ensures) (ap verdict_outcome c.in-Err.is) c.unreadable_from.ensures
