@@ -11,7 +11,7 @@ use bits::fields::bits_at;
 use opcoderows::slot_of;
 use rows::table;
 
-#[derive(Clone, Copy)]
+#[derive(Clone, Copy, Debug, PartialEq, Eq)]
 pub struct Line {
     // the bits that the row fixes, opcodes and unassigned ones, and what they are
     pub fixed_bits: u64,
@@ -25,7 +25,7 @@ pub struct Line {
 }
 
 // The rows of an opcode: where the secondary opcode stands, which ones they have, as a set, and the cell of secondary opcode 0.
-#[derive(Clone, Copy)]
+#[derive(Clone, Copy, Debug, PartialEq, Eq)]
 pub struct Group {
     pub low: u64,
     pub mask: u64,

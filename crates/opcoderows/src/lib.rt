@@ -10,14 +10,14 @@ use bits::fields::bits_at;
 
 // Sixteen opcodes: four bits for each one, from the lowest up, lead from the first slot to its own; 0 where no row has the opcode, since the
 // first slot is empty.
-#[derive(Clone, Copy)]
+#[derive(Clone, Copy, Debug, PartialEq, Eq)]
 pub struct Block {
     pub steps: u64,
     pub first: u64,
 }
 
 // Where the rows of an opcode stand in the order of rows by opcode, and how many there are.
-#[derive(Clone, Copy)]
+#[derive(Clone, Copy, Debug, PartialEq, Eq)]
 pub struct Run {
     pub first: u64,
     pub count: u64,

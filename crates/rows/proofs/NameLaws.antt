@@ -1,13 +1,17 @@
 -- Names are handed out as they are: one test over the rows. Assumes nothing.
-use mathlib.Core.Path.{◌≡◌, sym, ap, ◌∙◌}
-use mathlib.Core.Bool.{Bool}
-use mathlib.Core.List.{List, [], map}
+use Rattle.std.specs.Prelude.{Option, Some, None}
+use Rattle.std.specs.Option.{unwrap_or}
+use Rattle.std.specs.List.{position_or_len}
+use mathlib.Core.Path.{◌≡◌, refl, sym, ap, ◌∙◌}
+use mathlib.Core.Bool.{Bool, true, false, not, cond}
+use mathlib.Core.List.{List, [], ◌∷◌, map}
 use Prim.Native.Nat.{ℕ, suc, ◌+◌, ◌-◌, ◌*◌, ◌<◌, ◌≤◌}
 use native.Mathlib.Omega.{arith}
-use lib.Dec.{T, eqb, eqb→eq}
+use lib.Dec.{T, eqb, ltb, eqb→eq}
 use lib.ListN.{length, get_or, drop, length-map, get_or-eq_default}
 use lib.Seq.{drop-cons, drop-length, get_or-take, get_or-drop}
-use borrow.Author.Tests.{eq-eqb, ne_eqb}
+use borrow.Author.Tests.{eq-eqb, ne_eqb, ltb-false}
+use Rattle.bits.specs.Fields.{choose}
 use Rattle.bits.proofs.Every.{every, at}
 use Rattle.rows.specs.Rows.{Row, rows, row_of, no_row, row_count}
 use Rattle.rows.specs.Names.{ascii, name_of, name_width, filled, name, names, before_space}
@@ -27,6 +31,37 @@ module _ (s : List ℕ) (i : ℕ) (h : i < length s) where
 pub space_end : (s : List ℕ) (i : ℕ) → length s ≡ i → before_space (drop i s) ≡ 0
 unfolding before_space
 space_end s i e = rw (← e, drop-length s)
+
+-- the first space is where `position` finds it
+abbrev pub is_space : ℕ → Bool
+is_space b = eqb b 32
+
+before_is : (s : List ℕ) → position_or_len is_space s ≡ before_space s
+unfolding before_space
+before_is [] = refl
+before_is (b ∷ s) = go (eqb b 32) (before_is s)
+  where
+    go : (t : Bool) → position_or_len is_space s ≡ before_space s → cond (not t) (1 + position_or_len is_space s) 0 ≡ choose t 0 (suc (before_space s))
+    go true e = refl
+    go false e = omega arith
+
+before_le : (s : List ℕ) → before_space s ≤ length s
+unfolding before_space
+before_le [] = omega arith
+before_le (b ∷ s) = go (eqb b 32) (before_le s)
+  where
+    go : (t : Bool) → before_space s ≤ length s → choose t 0 (suc (before_space s)) ≤ suc (length s)
+    go true l = omega arith
+    go false l = omega arith
+
+pub before_found : (s : List ℕ) {r : Option ℕ} {n : ℕ} → length s ≡ n
+    → r ≡ cond (ltb (position_or_len is_space s) (length s)) (Some (position_or_len is_space s)) None → unwrap_or r n ≡ before_space s
+before_found s {r} {n} h e = ap (λ (o : Option ℕ). unwrap_or o n) e ∙ go (ltb (position_or_len is_space s) (length s)) refl
+  where
+    go : (t : Bool) → ltb (position_or_len is_space s) (length s) ≡ t
+        → unwrap_or (cond t (Some (position_or_len is_space s)) None) n ≡ before_space s
+    go true q = before_is s
+    go false q = omega (arith, h, before_is s, before_le s, ltb-false (position_or_len is_space s) (length s) q)
 
 -- a name has no space in it
 test : ℕ → Row → Bool

@@ -9,7 +9,7 @@ use crate::table;
 pub const WIDTH: usize = 18;
 
 // A name, with spaces after it, and its length.
-#[derive(Clone, Copy)]
+#[derive(Clone, Copy, Debug, PartialEq, Eq)]
 pub struct Name {
     pub bytes: [u8; WIDTH],
     pub len: u8,
@@ -107,31 +107,17 @@ pub fn all() -> [u8; WIDTH * table::ROWS]
 fn before_space(s: [u8; WIDTH]) -> u8
     ensures { result ≡ before_space s }
 {
-    let mut n = 0u8;
-    while n < 18 {
-        let at = n as usize;
-        if s[at] == b' ' {
-            return n;
-        }
-        n += 1;
-    }
-    n
+    s.iter().position(|b| *b == b' ').unwrap_or(s.len()) as u8
 }
 
 // The bytes of a row's name, with spaces after it.
+#[tactic(auto, using(crate::proofs::NameLaws::name_in))]
 fn bytes_of(row: usize) -> [u8; WIDTH]
     requires { row < row_count }
     ensures { result ≡ filled (name_of row) }
 {
-    let names = all();
-    let at = row * WIDTH;
-    let mut bytes = [b' '; WIDTH];
-    let mut i = 0;
-    while i < WIDTH {
-        bytes[i] = names[at + i];
-        i += 1;
-    }
-    bytes
+    let start = row * WIDTH;
+    all()[start..start + WIDTH].try_into().unwrap()
 }
 
 // The name of a row; of length 0 where there is no such row.

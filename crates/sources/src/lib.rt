@@ -9,7 +9,7 @@ ghost use Rattle.rows.specs.Served.Table.{page_word};
 use bits::fields::bits_at;
 
 // What a source byte means.
-#[derive(Clone, Copy)]
+#[derive(Clone, Copy, Debug, PartialEq, Eq)]
 pub enum Source {
     // A register, read plainly.
     Read(u8),
@@ -34,7 +34,8 @@ const IMMEDIATES: [u32; 32] = [
     0x2E660000, 0x34000000, 0x38000000, 0x3C000000, 0x40000000, 0x44000000, 0x48000000, 0x42480000,
 ];
 
-// The values of a page's enumeration that are not reserved, as a set: bit i for value i.
+// The values of a page's enumeration that are not reserved, as a set: bit i for value i. A `match`, since a constant array that is indexed at
+// run time is stored anew at each call, and each word read asks here.
 fn specials(page: u64) -> u64
     ensures { result ≡ page_word page }
 {
@@ -71,7 +72,7 @@ fn pair_entry(page: u8, d: u8) -> Source
     ensures { source_meaning page result ≡ pair_meaning page d }
 {
     let i = d / 2;
-    if !is_special(page as u64, i as u64) {
+    if !is_special(u64::from(page), u64::from(i)) {
         return Source::Refused;
     }
     if d % 2 == 0 {
@@ -87,9 +88,7 @@ fn constant(page: u8, e: u8) -> Source
     ensures { source_meaning page result ≡ constant_meaning page e }
 {
     if e < 32 {
-        let at = e as usize;
-        let values = IMMEDIATES;
-        return Source::Immediate(values[at]);
+        return Source::Immediate(IMMEDIATES[usize::from(e)]);
     }
     pair_entry(page, e - 32)
 }
@@ -105,7 +104,7 @@ pub fn meaning(page: u8, b: u8) -> Source
         return Source::Released(b - 64);
     }
     if b < 192 {
-        return Source::Uniform((b - 128) as u16 + 64 * page as u16);
+        return Source::Uniform(u16::from(b - 128) + 64 * u16::from(page));
     }
     constant(page, b - 192)
 }

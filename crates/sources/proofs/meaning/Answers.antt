@@ -13,7 +13,7 @@ returns-then-b-lt128 c =
 pub returns-then-b-lt192 : goal.returns-then-b-lt192
 returns-then-b-lt192 c =
     let a = c.args in
-    at_uniform a.page a.b c.if-b-lt128.false c.if-b-lt192.true
+    rw (c.from.ensures, c.from-then-b-lt192.ensures) (at_uniform a.page a.b c.if-b-lt128.false c.if-b-lt192.true)
 
 pub returns : goal.returns
 returns c =

@@ -1,25 +1,11 @@
-use mathlib.Core.Path.{◌≡◌}
-use Prim.Native.Nat.{suc, ◌+◌}
-use native.Mathlib.Numerals.{add-one}
-use native.Mathlib.Omega.{arith}
-use lib.ListN.{drop}
-use Rattle.rows.specs.Names.{before_space, name_width}
-use Rattle.rows.proofs.NameLaws.{space_here, no_space, space_end}
+use mathlib.Core.Path.{◌∙◌}
+use Rattle.std.proofs.Common.{rules, tests}
+use Rattle.std.proofs.lemmas.Iterator.{YieldsList-from_slice}
+use Rattle.std.proofs.lemmas.Iterator.Search.{position_from_yields_List}
+use Rattle.rows.proofs.NameLaws.{is_space, before_found}
 use Rattle.rows.proofs.names.before_space.Goals as goal
-
-pub returns-then-s-at-eq32 : goal.returns-then-s-at-eq32
-returns-then-s-at-eq32 c = omega (arith, c.loop-n.invariant.1, space_here c.args.s c.loop-n.n (omega arith) c.if-s-at-eq32.true)
-
-pub loop-n-preserved : goal.loop-n-preserved
-loop-n-preserved c =
-    let s = c.args.s in
-    let n = c.loop-n.n in
-    let e : before_space (drop n s) ≡ suc (before_space (drop (n + 1) s)) = rw (add-one n) (no_space s n (omega arith) c.if-s-at-eq32.false) in
-    (omega arith, omega (arith, e, c.loop-n.invariant.1))
 
 pub returns : goal.returns
 returns c =
-    let s = c.args.s in
-    let e : c.loop-n.n ≡ name_width = omega arith in
-    let z : before_space (drop c.loop-n.n s) ≡ 0 = rw e (space_end s name_width (omega arith)) in
-    omega (arith, z, c.loop-n.invariant.1)
+    let e = position_from_yields_List is_space _ _ c.position.result c.position.ensures.ran (YieldsList-from_slice c.args.s cc) (λ x b q k. search (rules, tests)) in
+    c.unwrap_or.ensures ∙ before_found c.args.s (search rules) e
