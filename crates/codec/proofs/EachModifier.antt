@@ -10,7 +10,7 @@ use borrow.Author.Tests.{eqb-true, eq-eqb}
 use Rattle.bits.proofs.Every.{every, at, and_l, and_r, not_T}
 use Rattle.rows.specs.Kinds.{Kind, absent}
 use Rattle.rows.specs.Rows.{Row, Modifier, rows, row_of, no_row, row_count}
-use Rattle.rows.specs.Layout.{low, modifier_at, modifier_lows}
+use Rattle.rows.specs.Layout.{modifier_at, modifier_lows}
 use Rattle.rows.proofs.TableLaws.{in_table}
 use Rattle.codec.specs.Demand2.{Each}
 
