@@ -8,14 +8,8 @@ ghost use Rattle.packing.specs.Packing.{fitting, front_bytes, halves_bytes, cont
 use bits::bytes::store64;
 use bits::halves::Halves;
 use container::format::{container_length, format_of, known};
-use container::layout::WORD_LENGTH;
+use container::layout::{ENTRY, FEWEST, WORD_LENGTH};
 use reasons::Reason;
-
-// Where the entry set begins.
-const ENTRY: usize = 8;
-
-// The fewest instructions of a container.
-const FEWEST: usize = 1;
 
 // Whether words and annotations of these lengths in bytes make a container of a version.
 pub fn fit(version: u64, words: usize, annotations: usize) -> bool
@@ -23,13 +17,7 @@ pub fn fit(version: u64, words: usize, annotations: usize) -> bool
 {
     let f = format_of(version);
     let n = words / WORD_LENGTH;
-    if n < FEWEST {
-        return false;
-    }
-    if f.most < n {
-        return false;
-    }
-    if words != WORD_LENGTH * n {
+    if n < FEWEST || f.most < n || words != WORD_LENGTH * n {
         return false;
     }
     annotations == f.annotation * n
@@ -39,10 +27,8 @@ pub fn fit(version: u64, words: usize, annotations: usize) -> bool
 fn front(version: u64, n: usize) -> [u8; 8]
     ensures { result ≡ front_bytes version n }
 {
-    let version_low = (version % 256) as u8;
-    let version_high = (version / 256 % 256) as u8;
-    let low = (n % 256) as u8;
-    let high = (n / 256 % 256) as u8;
+    let [version_low, version_high, ..] = version.to_le_bytes();
+    let [low, high, ..] = n.to_le_bytes();
     [b'V', b'S', b'P', version_low, version_high, 0, low, high]
 }
 

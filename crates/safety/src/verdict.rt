@@ -57,7 +57,11 @@ fn half_told(s: Halves, r: u32) -> Reported
     requires { (r ≡ lowest_of (either_of s)) × (r < 64) }
     ensures { result ≡ reported (lowest_half s) }
 {
-    if bits_at(s.low, u64::from(r), 1) == 1 { Reported::Low } else { Reported::High }
+    if bits_at(s.low, u64::from(r), 1) == 1 {
+        Reported::Low
+    } else {
+        Reported::High
+    }
 }
 
 // Refused with `number` at instruction `index` for the lowest of some halves, if there are any.

@@ -21,22 +21,18 @@ pub struct View<'a> {
 pub fn word_in(bytes: &[u8], n: usize, i: usize) -> Result<u64, Reason>
     ensures { fetched_outcome result ≡ word_outcome bytes.now n i }
 {
-    if n <= i {
-        return Err(Reason::NoWord);
-    }
-    if bytes.len() < SHORTEST_HEADER + WORD_LENGTH {
+    if n <= i || bytes.len() < SHORTEST_HEADER {
         return Err(Reason::NoWord);
     }
     let f = format_of(version_in(bytes));
-    if bytes.len() < f.header + WORD_LENGTH {
+    let Some(after_first) = bytes.len().checked_sub(f.header + WORD_LENGTH) else {
         return Err(Reason::NoWord);
-    }
-    if (bytes.len() - (f.header + WORD_LENGTH)) / WORD_LENGTH < i {
+    };
+    if after_first / WORD_LENGTH < i {
         return Err(Reason::NoWord);
     }
     let start = f.header + WORD_LENGTH * i;
-    let end = start + WORD_LENGTH;
-    Ok(load64(&bytes[start..end]))
+    Ok(load64(&bytes[start..start + WORD_LENGTH]))
 }
 
 // How many instructions there are; none where the bytes do not open.
@@ -44,12 +40,8 @@ pub fn open_count(bytes: &[u8]) -> usize
     ensures { result ≡ open_count bytes.now }
 {
     match open(bytes) {
-        Ok(header) => {
-            return header.count;
-        }
-        Err(_) => {
-            return 0;
-        }
+        Ok(header) => header.count,
+        Err(_) => 0,
     }
 }
 

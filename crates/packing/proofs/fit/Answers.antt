@@ -7,6 +7,7 @@ use Rattle.container.specs.declared.format.Format.{Format}
 use Rattle.container.specs.Formats.{format_of, most_of, word_length}
 use Rattle.container.proofs.FormatLaws.{Bounded, bounded_by, at_most}
 use Rattle.packing.specs.Packing.{word_count, fitting}
+use Rattle.packing.proofs.fit.Goals.{then-n-lt-FEWEST-via-then-n-lt-FEWEST, then-n-lt-FEWEST-via-else-n-lt-FEWEST+then-f-n, then-n-lt-FEWEST-via-else-n-lt-FEWEST+else-f-n+then-words-n}
 use Rattle.packing.proofs.fit.Goals as goal
 
 -- the most instructions of a format that was looked up
@@ -19,24 +20,17 @@ few b l = omega (arith, b.few, l)
 pub returns-then-n-lt-FEWEST : goal.returns-then-n-lt-FEWEST
 unfolding fitting
 returns-then-n-lt-FEWEST c =
-    let n = word_count c.args.words in
-    rw (lt-leb 1 n (omega (arith, c.if-n-lt-FEWEST.true)))
-
-pub returns-then-f-n : goal.returns-then-f-n
-unfolding fitting
-returns-then-f-n c =
-    let n = word_count c.args.words in
-    let m = most _ c.format_of-f.ensures in
-    rw (le-leb 1 n (omega (arith, c.if-n-lt-FEWEST.false)), lt-leb n (most_of c.args.version) (omega (arith, m, c.if-f-n.true)))
-
-pub returns-then-words-n : goal.returns-then-words-n
-unfolding fitting
-returns-then-words-n c =
     let v = c.args.version in
     let w = c.args.words in
     let n = word_count w in
     let m = most _ c.format_of-f.ensures in
-    rw (le-leb 1 n (omega (arith, c.if-n-lt-FEWEST.false)), le-leb n (most_of v) (omega (arith, m, c.if-f-n.false)), ne_eqb w (word_length * n) (λ e. omega (arith, c.if-words-n.true)))
+    elim c.then-n-lt-FEWEST.branch [
+      | then-n-lt-FEWEST-via-then-n-lt-FEWEST z ↦ rw (lt-leb 1 n (omega (arith, z.if-n-lt-FEWEST.true)))
+      | then-n-lt-FEWEST-via-else-n-lt-FEWEST+then-f-n z ↦
+          rw (le-leb 1 n (omega (arith, z.if-n-lt-FEWEST.false)), lt-leb n (most_of v) (omega (arith, m, z.if-f-n.true)))
+      | then-n-lt-FEWEST-via-else-n-lt-FEWEST+else-f-n+then-words-n z ↦
+          rw (le-leb 1 n (omega (arith, z.if-n-lt-FEWEST.false)), le-leb n (most_of v) (omega (arith, m, z.if-f-n.false)), ne_eqb w (word_length * n) (λ e. omega (arith, z.if-words-n.true)))
+    ]
 
 pub overflow_mul-result : goal.overflow_mul-result
 overflow_mul-result c =

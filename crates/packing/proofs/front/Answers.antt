@@ -5,4 +5,4 @@ use Rattle.packing.proofs.front.Goals as goal
 
 pub returns : goal.returns
 unfolding front_bytes little_bytes
-returns c = refl
+returns c = rw (c.to_le_bytes.ensures, c.to_le_bytes-2.ensures) refl
