@@ -8,7 +8,7 @@ use native.Mathlib.Omega.{arith}
 use lib.Dec.{T, ltb, ltb→lt, lt→ltb}
 use lib.ListN.{length, get_or, take, drop, drop_of_length-le}
 use lib.Pow.{are_bytes}
-use lib.Seq.{get_or-drop, drop-drop}
+use lib.Seq.{drop-cons, drop-length, get_or-drop, drop-drop}
 use Rattle.std.specs.Int.{w64, from_le_bytes, to_le_bytes}
 use Rattle.bits.specs.Bytes.{little, little_bytes}
 use Rattle.bits.proofs.Every.{and_both, and_l, and_r}
@@ -86,6 +86,16 @@ unfolding little_bytes
 number_bytes zero w = tt
 number_bytes (suc n) w =
     and_both (ltb (w % 256) 256) (are_bytes (little_bytes n (w / 256))) (lt→ltb (w % 256) 256 (omega arith)) (number_bytes n (w / 256))
+
+-- n elements of a list, from i on
+abbrev pub elements : ℕ → ℕ → List ℕ → List ℕ
+elements zero i xs = []
+elements (suc n) i xs = get_or xs i 0 ∷ elements n (suc i) xs
+
+pub drop_elements : (n i : ℕ) (xs : List ℕ) → length xs ≡ i + n → drop i xs ≡ elements n i xs
+drop_elements zero i xs e = rw (← add-zero i, ← e) (drop-length xs)
+drop_elements (suc n) i xs e =
+    drop-cons xs i 0 (omega arith) ∙ ap (λ (l : List ℕ). get_or xs i 0 ∷ l) (drop_elements n (suc i) xs (omega arith))
 
 bytes_eight : (w : ℕ) → w % 256 ∷ w / 256 % 256 ∷ w / 65536 % 256 ∷ w / 16777216 % 256 ∷ w / 4294967296 % 256 ∷ w / 1099511627776 % 256
     ∷ w / 281474976710656 % 256 ∷ w / 72057594037927936 % 256 ∷ [] ≡ little_bytes 8 w
