@@ -6,9 +6,9 @@ ghost use Rattle.bits.specs.Lists.{kth};
 ghost use Rattle.safety.specs.Verdict.{all_read};
 ghost use Rattle.differences.specs.Differences.{content_lines, differences};
 ghost use Rattle.differences.specs.Answers.{compared_outcome, ready_outcome, of_side, both_read, line_outcome};
-ghost use Rattle.diffparts.specs.Served.Parts.{Both, Counted};
+ghost use Rattle.diffparts.specs.Served.Parts.{Both};
 
-use crate::cursor::{At, Contents, advance};
+use crate::cursor::{At, advance};
 use differences::answer::{Side, Unread};
 use differences::line::{FIELDS, Line};
 use diffparts::single::version_line;
@@ -33,44 +33,22 @@ pub fn both_read<'a>(first: &'a [u8], second: &'a [u8]) -> Result<(), Unread>
     side_read(Side::Second, second)
 }
 
-// Line k of what they hold, by a walk from the front.
-fn walk_to<'a>(
-    first: &'a [u8],
-    n: usize,
-    second: &'a [u8],
-    m: usize,
-    k: usize,
-    xs: &mut Contents,
-    ys: &mut Contents,
-) -> Option<Line>
-    requires { Counted first.now n second.now m }
-    ensures { result ≡ kth (content_lines first.now second.now) k }
-{
-    let mut at = At::START;
-    for i in 0..k {
-        let (_, next) = advance(first, n, second, m, at, xs, ys)?;
-        at = next;
-    }
-    let (line, _) = advance(first, n, second, m, at, xs, ys)?;
-    Some(line)
-}
-
-// The same of two containers that open and read.
+// Line k of what two containers hold that open and read, by a walk from the front.
 fn content_line<'a>(first: &'a [u8], second: &'a [u8], k: usize) -> Option<Line>
     requires { Both first.now second.now }
     ensures { result ≡ kth (content_lines first.now second.now) k }
 {
+    let n = open_count(first);
+    let m = open_count(second);
     let mut xs = [0; FIELDS];
     let mut ys = [0; FIELDS];
-    walk_to(
-        first,
-        open_count(first),
-        second,
-        open_count(second),
-        k,
-        &mut xs,
-        &mut ys,
-    )
+    let mut at = At::START;
+    for _i in 0..k {
+        let (_, next) = advance(first, n, second, m, at, &mut xs, &mut ys)?;
+        at = next;
+    }
+    let (line, _) = advance(first, n, second, m, at, &mut xs, &mut ys)?;
+    Some(line)
 }
 
 // Line k of their list: where the versions differ, these come first.
