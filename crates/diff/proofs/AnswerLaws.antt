@@ -11,7 +11,6 @@ use Rattle.bits.proofs.OutcomeLaws.{never, then_passed, then_refused, then_gives
 use Rattle.container.specs.Formats.{most_instructions}
 use Rattle.view.specs.Words.{open_count}
 use Rattle.view.proofs.WordLaws.{opened_count}
-use Rattle.safety.specs.declared.verdict.Finding.{Finding}
 use Rattle.safety.specs.Verdict.{Judgement, all_read}
 use Rattle.differences.specs.declared.answer.Side.TheVariants.{First, Second}
 use Rattle.differences.specs.declared.answer.Unread.{Unread}
@@ -46,21 +45,6 @@ module _ (a b : List ℕ) {l : Line} (e : l ∷ [] ≡ version_lines a b) (k : �
       ap₂ kth (after_version a b e) n
 
 module _ (a b : List ℕ) where
-  pub first_bad : {f : Finding} → refuses f ≡ all_read a → ◌≡◌ {A = Outcome Unread (Unit {0})} (refuses (record { side = First; finding = f })) (both_read a b)
-  unfolding both_read
-  first_bad e = sym (then_refused (of_side Second (all_read b)) (ap (of_side First) (sym e)))
-
-  module _ (e : passes ≡ all_read a) where
-    second : of_side Second (all_read b) ≡ both_read a b
-    unfolding both_read
-    second = sym (then_passed (of_side Second (all_read b)) (ap (of_side First) (sym e)))
-
-    pub second_bad : {f : Finding} → refuses f ≡ all_read b → ◌≡◌ {A = Outcome Unread (Unit {0})} (refuses (record { side = Second; finding = f })) (both_read a b)
-    second_bad q = ap (of_side Second) q ∙ second
-
-    pub none_bad : passes ≡ all_read b → passes ≡ both_read a b
-    none_bad q = ap (of_side Second) q ∙ second
-
   -- both are read
   module _ (e : passes ≡ both_read a b) where
     parts : (x y : Judgement) → passes ≡ (of_side First x then of_side Second y) → (x ≡ passes) × (y ≡ passes)
@@ -75,9 +59,9 @@ module _ (a b : List ℕ) where
         let p = parts (all_read a) (all_read b) e in
         record { first = formed a p.0; second = formed b p.1 }
 
-    pub line_told : {o : Outcome Unread (Option Line)} (k : ℕ) → o ≡ gives (kth (differences a b) k) → o ≡ line_outcome a b k
+    pub line_told : {o : Option Line} (k : ℕ) → o ≡ kth (differences a b) k → gives o ≡ line_outcome a b k
     unfolding line_outcome
-    line_told k q = q ∙ sym (then_passed (gives (kth (differences a b) k)) (sym e))
+    line_told k q = ap gives q ∙ sym (then_passed (gives (kth (differences a b) k)) (sym e))
 
     told : gives (length (differences a b)) ≡ list_outcome a b
     unfolding list_outcome

@@ -1,4 +1,5 @@
 -- The steps of a walk along what differs. Assumes nothing.
+use Rattle.std.specs.Prelude.{Some, None}
 use mathlib.Core.Path.{◌≡◌, refl, sym, ap, ap₂, ◌∙◌}
 use mathlib.Core.Bool.{Bool, true, false}
 use mathlib.Core.List.{List, [], ◌∷◌, ◌++◌, append_assoc, append-nil}
@@ -26,7 +27,7 @@ use Rattle.diffparts.specs.Served.Parts.{longer, set_count, part_count, set_line
 use Rattle.diff.specs.Served.Cursor.{fields_from, differing_from, told_at, Found, from_instruction, remaining, stage_stepped}
 use Rattle.differences.proofs.DiffersLaws.{contents_length}
 use Rattle.differences.proofs.LineLaws.{lines_step, lines_end, lines_add, lines_shift, lines_same, rows_from, lines_listed}
-use Rattle.diff.proofs.ScanLaws.{none_from, all_fields, first_line}
+use Rattle.diff.proofs.ScanLaws.{none_from, all_fields, line_found, no_line_found}
 use Rattle.diffparts.proofs.SingleLaws.{some_sets, at_removed, at_added, at_set, at_entry, at_note}
 
 -- a word that stands in a container is read as its eight bytes are
@@ -58,8 +59,10 @@ module _ (a b : List ℕ) (i : ℕ) {xs ys : List ℕ} (ex : xs ≡ contents (in
 -- the first field in which two instructions differ, from all of their fields
 pub found : (a b : List ℕ) (i : ℕ) (xs ys : List ℕ) → instruction_lines a b i ≡ fields_from i 0 xs ys → Found a b i (differing_from xs ys 0) xs ys
 found a b i xs ys e =
-    let f = first_line xs ys i field_count 0 (omega arith) in
-    record { differ = λ l. e ∙ f.0 l; same = λ l. e ∙ f.1 l }
+    record {
+      differ = λ f q. let l = line_found xs ys i 0 (sym q) in (l.0, e ∙ l.1);
+      same = λ q. e ∙ no_line_found xs ys i 0 (sym q);
+    }
 
 module _ (a b : List ℕ) where
   abbrev n : ℕ
@@ -86,14 +89,14 @@ module _ (a b : List ℕ) where
     none_here h = rw (none_from xs ys at.index at.field h)
 
     -- the fields at hand have a line, or none
-    pub tells_field : differing_from xs ys at.field < field_count
-        → stage_stepped a b (max at.next (shared a b)) (told_at xs ys at.index (differing_from xs ys at.field) at.next) xs ys ≡ remaining a b at xs ys
+    pub tells_field : {f : ℕ} → Some f ≡ differing_from xs ys at.field
+        → stage_stepped a b (max at.next (shared a b)) (Some (told_at xs ys at.index f at.next)) xs ys ≡ remaining a b at xs ys
     unfolding remaining
-    tells_field h = ap (λ (l : List Line). l ++ from_instruction a b (max at.next (shared a b)) at.next) (sym ((first_line xs ys at.index field_count at.field (omega arith)).0 h))
+    tells_field e = ap (λ (l : List Line). l ++ from_instruction a b (max at.next (shared a b)) at.next) (sym (line_found xs ys at.index at.field e).1)
 
-    pub no_field : field_count ≤ differing_from xs ys at.field → remaining a b at xs ys ≡ from_instruction a b (max at.next (shared a b)) at.next
+    pub no_field : None ≡ differing_from xs ys at.field → remaining a b at xs ys ≡ from_instruction a b (max at.next (shared a b)) at.next
     unfolding remaining
-    no_field h = ap (λ (l : List Line). l ++ from_instruction a b (max at.next (shared a b)) at.next) ((first_line xs ys at.index field_count at.field (omega arith)).1 h)
+    no_field e = ap (λ (l : List Line). l ++ from_instruction a b (max at.next (shared a b)) at.next) (no_line_found xs ys at.index at.field e)
 
   module _ (p i : ℕ) where
     pub instruction_step : i < shared a b → from_instruction a b p i ≡ instruction_lines a b i ++ from_instruction a b p (i + 1)
@@ -103,16 +106,16 @@ module _ (a b : List ℕ) where
     instruction_end h = ap (λ (l : List Line). l ++ singles_from a b p) (lines_end (instruction_lines a b) i (shared a b) h)
 
     -- instruction i has a line
-    pub tells_instruction : {r : ℕ} {xs ys : List ℕ} → i < shared a b → p ≡ shared a b → Found a b i r xs ys → r < field_count
-        → stage_stepped a b p (told_at xs ys i r (i + 1)) xs ys ≡ from_instruction a b p i
+    pub tells_instruction : {f : ℕ} {xs ys : List ℕ} → i < shared a b → p ≡ shared a b → Found a b i (Some f) xs ys
+        → stage_stepped a b p (Some (told_at xs ys i f (i + 1))) xs ys ≡ from_instruction a b p i
     unfolding remaining
-    tells_instruction {r} {xs} {ys} h e l k =
+    tells_instruction {f} {xs} {ys} h e l =
         let q : max (i + 1) (shared a b) ≡ p = omega (arith, h, e) in
-        ap (λ (x : ℕ). line (get_or fields r Row) i (get_or xs r 0) (get_or ys r 0) ∷ fields_from i (r + 1) xs ys ++ from_instruction a b x (i + 1)) q
-        ∙ sym (instruction_step h ∙ ap (λ (t : List Line). t ++ from_instruction a b p (i + 1)) (l.differ k))
+        ap (λ (x : ℕ). line (get_or fields f Row) i (get_or xs f 0) (get_or ys f 0) ∷ fields_from i (f + 1) xs ys ++ from_instruction a b x (i + 1)) q
+        ∙ sym (instruction_step h ∙ ap (λ (t : List Line). t ++ from_instruction a b p (i + 1)) (l.differ f refl).1)
 
-    pub skips_instruction : {r : ℕ} {xs ys : List ℕ} → i < shared a b → Found a b i r xs ys → field_count ≤ r → from_instruction a b p i ≡ from_instruction a b p (i + 1)
-    skips_instruction h l k = instruction_step h ∙ ap (λ (t : List Line). t ++ from_instruction a b p (i + 1)) (l.same k)
+    pub skips_instruction : {xs ys : List ℕ} → i < shared a b → Found a b i None xs ys → from_instruction a b p i ≡ from_instruction a b p (i + 1)
+    skips_instruction h l = instruction_step h ∙ ap (λ (t : List Line). t ++ from_instruction a b p (i + 1)) (l.same refl)
 
   -- after a line of part p
   pub after_single : (p : ℕ) → shared a b ≤ p → (xs ys : List ℕ) → remaining a b (record { index = 0; field = field_count; next = p + 1 }) xs ys ≡ singles_from a b (p + 1)

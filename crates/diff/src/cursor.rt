@@ -8,21 +8,14 @@ ghost use Rattle.diff.specs.Served.Cursor.{Loaded, Found, differing_from, told_a
 use differences::line::{FIELDS, Line, field};
 use diffparts::contents::take_contents;
 use diffparts::parts::word;
-use diffparts::single::{Single, larger, line_of_part, part_count, smaller};
+use diffparts::single::{line_of_part, part_count};
 
 // Where a walk is: to be told are the fields from `field` on of the instruction `index`, and after them the parts from `next` on.
-#[derive(Clone, Copy)]
+#[derive(Clone, Copy, Debug, PartialEq, Eq)]
 pub struct At {
     pub index: usize,
     pub field: usize,
     pub next: usize,
-}
-
-// The next line and where the walk is after it, or the end.
-#[derive(Clone, Copy)]
-pub enum Step {
-    Told(Line, At),
-    End,
 }
 
 impl At {
@@ -37,22 +30,15 @@ impl At {
 // What the fields of the instruction at hand hold, in the first container or in the second.
 pub type Contents = [u64; FIELDS];
 
-// The first field from `from` on in which the contents differ; none is 22 or more.
-fn differing(xs: &Contents, ys: &Contents, from: usize) -> usize
+// The first field from `from` on in which the contents differ.
+fn differing(xs: &Contents, ys: &Contents, from: usize) -> Option<usize>
     ensures { result ≡ differing_from xs.now ys.now from }
 {
-    let mut f = from;
-    while f < FIELDS {
-        if xs[f] != ys[f] {
-            return f;
-        }
-        f += 1;
-    }
-    f
+    (from..FIELDS).find(|&f| xs[f] != ys[f])
 }
 
 // The line of field f of an instruction, and where the walk is after it.
-fn tell(xs: &Contents, ys: &Contents, index: usize, f: usize, next: usize) -> Step
+fn tell(xs: &Contents, ys: &Contents, index: usize, f: usize, next: usize) -> (Line, At)
     requires { f < field_count }
     ensures { result ≡ told_at xs.now ys.now index f next }
 {
@@ -67,7 +53,7 @@ fn tell(xs: &Contents, ys: &Contents, index: usize, f: usize, next: usize) -> St
         field: f + 1,
         next,
     };
-    Step::Told(line, at)
+    (line, at)
 }
 
 // Whether the words at index i differ; then what the instructions hold is taken.
@@ -91,21 +77,21 @@ pub fn load<'a>(
     true
 }
 
-// The first field in which the instructions at index i differ; none is 22 or more.
+// The first field in which the instructions at index i differ.
 fn first_field<'a>(
     first: &'a [u8],
     second: &'a [u8],
     i: usize,
     xs: &mut Contents,
     ys: &mut Contents,
-) -> usize
+) -> Option<usize>
     requires { Both first.now second.now × (i < shared_of first.now second.now) }
     ensures { Found first.now second.now i result xs.new ys.new }
 {
     if load(first, second, i, xs, ys) {
         return differing(xs, ys, 0);
     }
-    FIELDS
+    None
 }
 
 // A step along the instructions that both have, the first `shared`.
@@ -116,47 +102,43 @@ fn step_fields<'a>(
     at: At,
     xs: &mut Contents,
     ys: &mut Contents,
-) -> Step
+) -> Option<(Line, At)>
     requires { Both first.now second.now × (shared ≡ shared_of first.now second.now) }
     ensures { stage_stepped first.now second.now (max at.next shared) result xs.new ys.new ≡ remaining first.now second.now at xs.old ys.old }
 {
-    let f = differing(xs, ys, at.field);
-    if f < FIELDS {
-        return tell(xs, ys, at.index, f, at.next);
+    if let Some(f) = differing(xs, ys, at.field) {
+        return Some(tell(xs, ys, at.index, f, at.next));
     }
-    let mut i = at.next;
-    while i < shared {
-        let g = first_field(first, second, i, xs, ys);
-        if g < FIELDS {
-            return tell(xs, ys, i, g, i + 1);
+    for i in at.next..shared {
+        if let Some(f) = first_field(first, second, i, xs, ys) {
+            return Some(tell(xs, ys, i, f, i + 1));
         }
-        i += 1;
     }
-    Step::End
+    None
 }
 
 // A step along the parts from p on that have one line at most.
-fn step_singles<'a>(first: &'a [u8], n: usize, second: &'a [u8], m: usize, from: usize) -> Step
+fn step_singles<'a>(
+    first: &'a [u8],
+    n: usize,
+    second: &'a [u8],
+    m: usize,
+    from: usize,
+) -> Option<(Line, At)>
     requires { Counted first.now n second.now m × (shared_of first.now second.now ≤ from) }
     ensures { (xs ys : List ℕ) → stepped first.now second.now result xs ys ≡ singles_from first.now second.now from }
 {
     let end = part_count(first, n, second, m);
-    let mut p = from;
-    while p < end {
-        match line_of_part(first, n, second, m, p) {
-            Single::Told(line) => {
-                let at = At {
-                    index: 0,
-                    field: FIELDS,
-                    next: p + 1,
-                };
-                return Step::Told(line, at);
-            }
-            Single::Nothing => {}
+    for p in from..end {
+        if let Some(line) = line_of_part(first, n, second, m, p) {
+            let at = At {
+                next: p + 1,
+                ..At::START
+            };
+            return Some((line, at));
         }
-        p += 1;
     }
-    Step::End
+    None
 }
 
 // The next line of what two containers of n and m instructions hold that open and read.
@@ -168,14 +150,13 @@ pub fn advance<'a>(
     at: At,
     xs: &mut Contents,
     ys: &mut Contents,
-) -> Step
+) -> Option<(Line, At)>
     requires { Counted first.now n second.now m }
     ensures { stepped first.now second.now result xs.new ys.new ≡ remaining first.now second.now at xs.old ys.old }
 {
-    let shared = smaller(n, m);
-    let s = step_fields(first, second, shared, at, xs, ys);
-    match s {
-        Step::Told(line, next) => Step::Told(line, next),
-        Step::End => step_singles(first, n, second, m, larger(at.next, shared)),
+    let shared = n.min(m);
+    match step_fields(first, second, shared, at, xs, ys) {
+        Some(told) => Some(told),
+        None => step_singles(first, n, second, m, at.next.max(shared)),
     }
 }

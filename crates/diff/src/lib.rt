@@ -3,117 +3,71 @@
 
 ghost use Rattle.std.specs.Prelude.{◌≡◌};
 ghost use Rattle.bits.specs.Lists.{kth};
-ghost use Rattle.bits.specs.Outcomes.{gives};
+ghost use Rattle.safety.specs.Verdict.{all_read};
 ghost use Rattle.differences.specs.Differences.{content_lines, differences};
-ghost use Rattle.differences.specs.Answers.{compared_outcome, ready_outcome, both_read, line_outcome};
-ghost use Rattle.diffparts.specs.Served.Parts.{Both, Counted};
+ghost use Rattle.differences.specs.Answers.{compared_outcome, ready_outcome, of_side, both_read, line_outcome};
+ghost use Rattle.diffparts.specs.Served.Parts.{Both};
 
-use crate::cursor::{At, Contents, Step, advance};
-use differences::answer::{Compared, Ready, Side, Unread};
-use differences::line::FIELDS;
-use diffparts::single::{Single, version_line};
-use safety::verdict::Verdict;
+use crate::cursor::{At, advance};
+use differences::answer::{Side, Unread};
+use differences::line::{FIELDS, Line};
+use diffparts::single::version_line;
 use verifier::read_all;
 use view::open_count;
 
 pub mod cursor;
 
+// Whether the container of a side opens and reads.
+fn side_read(side: Side, bytes: &[u8]) -> Result<(), Unread>
+    ensures { ready_outcome result ≡ of_side side (all_read bytes.now) }
+{
+    read_all(bytes).map_err(|finding| Unread { side, finding })
+}
+
 // Whether both containers open and read: the first is asked first.
-pub fn both_read<'a>(first: &'a [u8], second: &'a [u8]) -> Ready
+#[tactic(auto, using(bits::proofs::OutcomeLaws::left_by, bits::proofs::OutcomeLaws::stops, bits::proofs::OutcomeLaws::goes_on), unfolding(differences::specs::Answers::both_read))]
+pub fn both_read<'a>(first: &'a [u8], second: &'a [u8]) -> Result<(), Unread>
     ensures { ready_outcome result ≡ both_read first.now second.now }
 {
-    let v = read_all(first);
-    match v {
-        Ok(()) => {}
-        Err(finding) => {
-            return Ready::Unread(Unread {
-                side: Side::First,
-                finding,
-            });
-        }
-    }
-    let w = read_all(second);
-    match w {
-        Ok(()) => Ready::Both,
-        Err(finding) => Ready::Unread(Unread {
-            side: Side::Second,
-            finding,
-        }),
-    }
+    side_read(Side::First, first)?;
+    side_read(Side::Second, second)
 }
 
-// Line k of what they hold, by a walk from the front.
-fn walk_to<'a>(
-    first: &'a [u8],
-    n: usize,
-    second: &'a [u8],
-    m: usize,
-    k: usize,
-    xs: &mut Contents,
-    ys: &mut Contents,
-) -> Compared
-    requires { Counted first.now n second.now m }
-    ensures { compared_outcome result ≡ gives (kth (content_lines first.now second.now) k) }
-{
-    let mut at = At::START;
-    let mut i = 0;
-    while i < k {
-        match advance(first, n, second, m, at, xs, ys) {
-            Step::Told(_, next) => {
-                at = next;
-            }
-            Step::End => {
-                return Compared::Fewer;
-            }
-        }
-        i += 1;
-    }
-    match advance(first, n, second, m, at, xs, ys) {
-        Step::Told(line, _) => Compared::Line(line),
-        Step::End => Compared::Fewer,
-    }
-}
-
-// The same of two containers that open and read.
-fn content_line<'a>(first: &'a [u8], second: &'a [u8], k: usize) -> Compared
+// Line k of what two containers hold that open and read, by a walk from the front.
+fn content_line<'a>(first: &'a [u8], second: &'a [u8], k: usize) -> Option<Line>
     requires { Both first.now second.now }
-    ensures { compared_outcome result ≡ gives (kth (content_lines first.now second.now) k) }
+    ensures { result ≡ kth (content_lines first.now second.now) k }
 {
+    let n = open_count(first);
+    let m = open_count(second);
     let mut xs = [0; FIELDS];
     let mut ys = [0; FIELDS];
-    walk_to(
-        first,
-        open_count(first),
-        second,
-        open_count(second),
-        k,
-        &mut xs,
-        &mut ys,
-    )
+    let mut at = At::START;
+    for _i in 0..k {
+        let (_, next) = advance(first, n, second, m, at, &mut xs, &mut ys)?;
+        at = next;
+    }
+    let (line, _) = advance(first, n, second, m, at, &mut xs, &mut ys)?;
+    Some(line)
 }
 
 // Line k of their list: where the versions differ, these come first.
-fn list_line<'a>(first: &'a [u8], second: &'a [u8], k: usize) -> Compared
+fn list_line<'a>(first: &'a [u8], second: &'a [u8], k: usize) -> Option<Line>
     requires { Both first.now second.now }
-    ensures { compared_outcome result ≡ gives (kth (differences first.now second.now) k) }
+    ensures { result ≡ kth (differences first.now second.now) k }
 {
     match version_line(first, second) {
-        Single::Told(line) => {
-            if k == 0 {
-                return Compared::Line(line);
-            }
-            content_line(first, second, k - 1)
-        }
-        Single::Nothing => content_line(first, second, k),
+        Some(line) if k == 0 => Some(line),
+        Some(_) => content_line(first, second, k - 1),
+        None => content_line(first, second, k),
     }
 }
 
 // Line k of the list of differences, from 0.
-pub fn diff_line<'a>(first: &'a [u8], second: &'a [u8], k: usize) -> Compared
+#[tactic(auto, using(bits::proofs::OutcomeLaws::left_by, bits::proofs::OutcomeLaws::stops, bits::proofs::OutcomeLaws::goes_on, crate::proofs::AnswerLaws::are_both), unfolding(differences::specs::Answers::line_outcome))]
+pub fn diff_line<'a>(first: &'a [u8], second: &'a [u8], k: usize) -> Result<Option<Line>, Unread>
     ensures { compared_outcome result ≡ line_outcome first.now second.now k }
 {
-    match both_read(first, second) {
-        Ready::Both => list_line(first, second, k),
-        Ready::Unread(u) => Compared::Unread(u),
-    }
+    both_read(first, second)?;
+    Ok(list_line(first, second, k))
 }

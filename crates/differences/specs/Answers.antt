@@ -1,35 +1,25 @@
 -- What a comparison answers (02, Item 4).
-use Rattle.std.specs.Prelude.{List, ℕ, length, Option, None, Some}
+use Rattle.std.specs.Prelude.{List, ℕ, length, Option, Result}
 use Rattle.bits.specs.Lists.{kth}
-use Rattle.bits.specs.Outcomes.{Outcome, gives, refuses, passes, ◌then◌, kept_or}
+use Rattle.bits.specs.Outcomes.{Outcome, outcome, gives, refuses, passes, ◌then◌, kept_or}
 use Rattle.safety.specs.Verdict.{Judgement, all_read}
 use Rattle.differences.specs.declared.answer.Side.{Side}
 use Rattle.differences.specs.declared.answer.Side.TheVariants.{First, Second}
 use Rattle.differences.specs.declared.answer.Unread.{Unread}
-use Rattle.differences.specs.declared.answer.Compared.{Compared}
-use Rattle.differences.specs.declared.answer.Compared.TheVariants.{Line as a_line, Fewer, Unread as unread_one}
-use Rattle.differences.specs.declared.answer.Listed.{Listed}
-use Rattle.differences.specs.declared.answer.Listed.TheVariants.{Lines, Unread as unread_of_two}
-use Rattle.differences.specs.declared.answer.Ready.{Ready}
-use Rattle.differences.specs.declared.answer.Ready.TheVariants.{Both as both_ready, Unread as unready}
 use Rattle.differences.specs.declared.line.Line.{Line}
 use Rattle.differences.specs.Differences.{differences}
 use Rattle.differences.specs.Numbers.{front_filled}
 
 -- the outcome that each answer stands for: the line asked for, or none where the list has fewer; or which one cannot be compared
-abbrev pub compared_outcome : Compared → Outcome Unread (Option Line)
-compared_outcome (a_line l) = gives (Some l)
-compared_outcome Fewer = gives None
-compared_outcome (unread_one u) = refuses u
+abbrev pub compared_outcome : Result (Option Line) Unread → Outcome Unread (Option Line)
+compared_outcome r = outcome r
 
-abbrev pub listed_outcome : Listed → Outcome Unread ℕ
-listed_outcome (Lines n) = gives n
-listed_outcome (unread_of_two u) = refuses u
+abbrev pub listed_outcome : Result ℕ Unread → Outcome Unread ℕ
+listed_outcome r = outcome r
 
 -- nothing stands against comparing them, or which one cannot be compared
-abbrev pub ready_outcome : Ready → Outcome Unread (Unit {0})
-ready_outcome both_ready = passes
-ready_outcome (unready u) = refuses u
+abbrev pub ready_outcome : Result (Unit {0}) Unread → Outcome Unread (Unit {0})
+ready_outcome r = outcome r
 
 -- a refusal of opening or reading, and which container it is of
 abbrev pub of_side : Side → Judgement → Outcome Unread (Unit {0})

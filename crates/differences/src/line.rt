@@ -5,7 +5,7 @@ ghost use Rattle.differences.specs.declared.line.What.TheVariants.{Row as row};
 
 // What differs: a field of an instruction (a source by its index, a modifier by its lowest bit), an instruction that only one has, a set of
 // the entry sets or of an annotation (the paper's note) by its number, or the versions.
-#[derive(Clone, Copy)]
+#[derive(Clone, Copy, Debug, PartialEq, Eq)]
 pub enum What {
     Row,
     Page,
@@ -20,7 +20,8 @@ pub enum What {
     Version,
 }
 
-// The numbers of the sets: the one set of version 1, that of the low halves, and that of the high halves.
+// The numbers of the sets: the one set of version 1, that of the low halves, and that of the high halves. They are no enum, since
+// `numbers::line_numbers` and `difftext::write_line` take a set with any number.
 pub const ONE_SET: u8 = 0;
 
 pub const LOW_SET: u8 = 1;
@@ -28,7 +29,7 @@ pub const LOW_SET: u8 = 1;
 pub const HIGH_SET: u8 = 2;
 
 // A line: what differs, at which instruction, and what the first and the second container have there.
-#[derive(Clone, Copy)]
+#[derive(Clone, Copy, Debug, PartialEq, Eq)]
 pub struct Line {
     pub what: What,
     pub index: usize,
@@ -47,16 +48,12 @@ pub fn field(f: usize) -> What
     requires { f < field_count }
     ensures { result ≡ get_or fields f row }
 {
-    if 8 <= f {
-        return What::Modifier(LOWS[f - 8]);
-    }
-    if 4 <= f {
-        return What::Source((f - 4) as u8);
-    }
     match f {
         0 => What::Row,
         1 => What::Page,
         2 => What::Flow,
-        _ => What::Destination,
+        3 => What::Destination,
+        4..8 => What::Source((f - 4) as u8),
+        _ => What::Modifier(LOWS[f - 8]),
     }
 }

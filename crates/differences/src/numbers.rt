@@ -21,12 +21,12 @@ fn what_number(what: What) -> u64
         What::Page => 1,
         What::Flow => 2,
         What::Destination => 3,
-        What::Source(k) => 4 + 256 * k as u64,
-        What::Modifier(p) => 5 + 256 * p as u64,
+        What::Source(k) => 4 + 256 * u64::from(k),
+        What::Modifier(p) => 5 + 256 * u64::from(p),
         What::Added => 6,
         What::Removed => 7,
-        What::Entry(k) => 8 + 256 * k as u64,
-        What::Annotation(k) => 9 + 256 * k as u64,
+        What::Entry(k) => 8 + 256 * u64::from(k),
+        What::Annotation(k) => 9 + 256 * u64::from(k),
         What::Version => 10,
     }
 }
@@ -36,7 +36,6 @@ pub fn line_numbers(line: Line) -> [u64; 3]
     requires { line.index < most_instructions }
     ensures { result ≡ line_numbers line }
 {
-    let what = line.what;
-    let head = what_number(what) + 65536 * line.index as u64;
+    let head = what_number(line.what) + 65536 * line.index as u64;
     [head, line.first, line.second]
 }

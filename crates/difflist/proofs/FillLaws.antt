@@ -89,6 +89,11 @@ pub index_placed : (g : ℕ → List Line) (i n k : ℕ) {j r : ℕ} {o m a : Li
     → 3 * j ≤ length o → Placed (lines_from g i (n + 1)) k o a r
 index_placed g i n k {j} {r} {o} {m} {a} p q h = subst (λ (l : List Line). Placed l k o a r) (sym (lines_add g i n 1 ∙ ap (λ (l : List Line). lines_from g i n ++ l) (one_index g (i + n)))) (placed_next p q h)
 
+-- the same from index 0
+pub next_placed : (g : ℕ → List Line) (n k : ℕ) {j r : ℕ} {o m a : List ℕ} → Placed (lines_from g 0 n) k o m j → Placed (g n) j m a r
+    → 3 * j ≤ length o → Placed (lines_from g 0 (n + 1)) k o a r
+next_placed g n k {j} {r} {o} {m} {a} p q h = index_placed g 0 n k p (subst (λ (i : ℕ). Placed (g i) j m a r) (sym (zero-add n)) q) h
+
 pub no_index : (g : ℕ → List Line) (i k : ℕ) (out : List ℕ) → Placed (lines_from g i 0) k out out k
 unfolding lines_from
 no_index g i k out = none_placed k out

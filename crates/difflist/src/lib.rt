@@ -6,32 +6,21 @@ ghost use Rattle.differences.specs.Answers.{listed_outcome, list_outcome, list_b
 
 use crate::list::put_lines;
 use diff::both_read;
-use differences::answer::{Listed, Ready};
-use differences::line::FIELDS;
+use differences::answer::Unread;
 use differences::numbers::MOST_NUMBERS;
 use view::open_count;
 
 mod list;
 
 // The whole list, three numbers for each line, at the front of a buffer that has room for any.
-pub fn diff_lines<'a>(first: &'a [u8], second: &'a [u8], out: &mut [u64; MOST_NUMBERS]) -> Listed
+pub fn diff_lines<'a>(
+    first: &'a [u8],
+    second: &'a [u8],
+    out: &mut [u64; MOST_NUMBERS],
+) -> Result<usize, Unread>
     ensures answer { listed_outcome result ≡ list_outcome first.now second.now }
     ensures buffer { out.new ≡ list_buffer first.now second.now out.old }
 {
-    match both_read(first, second) {
-        Ready::Both => {
-            let mut xs = [0; FIELDS];
-            let mut ys = [0; FIELDS];
-            Listed::Lines(put_lines(
-                first,
-                open_count(first),
-                second,
-                open_count(second),
-                &mut xs,
-                &mut ys,
-                out,
-            ))
-        }
-        Ready::Unread(u) => Listed::Unread(u),
-    }
+    both_read(first, second)?;
+    Ok(put_lines(first, open_count(first), second, open_count(second), out))
 }

@@ -12,7 +12,7 @@ ghost use Rattle.difflist.specs.Served.Placed.{Placed, Indexed};
 use diff::cursor::{Contents, load};
 use differences::line::{FIELDS, Line, field};
 use differences::numbers::line_numbers;
-use diffparts::single::{Single, line_of_part, part_count, smaller, version_line};
+use diffparts::single::{line_of_part, part_count, version_line};
 
 // Puts the numbers of a line after k lines of a buffer, and tells how many lines there are then.
 fn put_line(line: Line, k: usize, out: &mut [u64]) -> usize
@@ -57,10 +57,8 @@ fn put_fields(xs: &Contents, ys: &Contents, index: usize, k: usize, out: &mut [u
     ensures { Placed (fields_from index 0 xs.now ys.now) k out.old out.new result }
 {
     let mut n = k;
-    let mut f = 0;
-    while f < FIELDS {
+    for f in 0..FIELDS {
         n = put_field(xs, ys, index, f, n, out);
-        f += 1;
     }
     n
 }
@@ -89,31 +87,29 @@ fn put_instructions<'a>(
     first: &'a [u8],
     second: &'a [u8],
     shared: usize,
-    xs: &mut Contents,
-    ys: &mut Contents,
     k: usize,
     out: &mut [u64],
 ) -> usize
     requires { Both first.now second.now × (shared ≡ shared_of first.now second.now) × (k ≤ 1) × (length out.old ≡ 3 * most_lines) }
     ensures { Placed (lines_from (instruction_lines first.now second.now) 0 shared) k out.old out.new result }
 {
+    let mut xs = [0; FIELDS];
+    let mut ys = [0; FIELDS];
     let mut n = k;
-    let mut i = 0;
-    while i < shared {
-        n = put_instruction(first, second, i, xs, ys, n, out);
-        i += 1;
+    for i in 0..shared {
+        n = put_instruction(first, second, i, &mut xs, &mut ys, n, out);
     }
     n
 }
 
 // The line of a part, if it has one.
-fn put_single(single: Single, k: usize, out: &mut [u64]) -> usize
+fn put_single(single: Option<Line>, k: usize, out: &mut [u64]) -> usize
     requires { Indexed (single_told single) × (3 * (k + 1) ≤ length out.old) }
     ensures { Placed (single_told single) k out.old out.new result }
 {
     match single {
-        Single::Told(line) => put_line(line, k, out),
-        Single::Nothing => k,
+        Some(line) => put_line(line, k, out),
+        None => k,
     }
 }
 
@@ -145,13 +141,9 @@ fn put_parts<'a>(
     requires { Counted first.now n second.now m × (k ≤ 1 + field_count * shared_of first.now second.now) × (length out.old ≡ 3 * most_lines) }
     ensures { Placed (singles_from first.now second.now (shared_of first.now second.now)) k out.old out.new result }
 {
-    let shared = smaller(n, m);
-    let end = part_count(first, n, second, m);
     let mut l = k;
-    let mut p = shared;
-    while p < end {
+    for p in n.min(m)..part_count(first, n, second, m) {
         l = put_part(first, n, second, m, p, l, out);
-        p += 1;
     }
     l
 }
@@ -170,14 +162,12 @@ pub(crate) fn put_lines<'a>(
     n: usize,
     second: &'a [u8],
     m: usize,
-    xs: &mut Contents,
-    ys: &mut Contents,
     out: &mut [u64],
 ) -> usize
     requires { Counted first.now n second.now m × (length out.old ≡ 3 * most_lines) }
     ensures { Placed (differences first.now second.now) 0 out.old out.new result }
 {
     let k = put_version(first, second, out);
-    let l = put_instructions(first, second, smaller(n, m), xs, ys, k, out);
+    let l = put_instructions(first, second, n.min(m), k, out);
     put_parts(first, n, second, m, l, out)
 }

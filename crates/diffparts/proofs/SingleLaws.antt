@@ -9,6 +9,7 @@ use lib.Dec.{eqb}
 use lib.ListN.{length, get_or}
 use Rattle.container.specs.Formats.{most_instructions}
 use Rattle.container.specs.Container.{version_of, count_of}
+use Rattle.container.proofs.FormatLaws.{at_most}
 use Rattle.container.proofs.OpeningLaws.{sized}
 use Rattle.differences.specs.Sets.{low_and_high, sets_of}
 use Rattle.differences.specs.Differences.{removed_line, added_line, entry_line, note_line}
@@ -25,6 +26,14 @@ few {a} {b} k =
     let x = (sized a k.both.first.opens).few in
     let y = (sized b k.both.second.opens).few in
     (omega (arith, k.first_count, k.second_count, x, y), omega (arith, k.first_count, x))
+
+-- so the parts are few
+pub small : {a b : List ℕ} {n m x s y : ℕ} (v w : ℕ) → Counted a n b m → x ≡ max n m → s ≡ length (sets_of v w) → y ≡ min n m
+    → (x ≤ 2048) × (s * (y + 1) ≤ 2 * 2049) × (y ≤ 2048)
+small v w k ex es ey =
+    let f = few k in
+    let t = some_sets v w in
+    (omega (arith, f, ex), at_most 2 2049 (omega (arith, t, es)) (omega (arith, f, ey)), omega (arith, f, ey))
 
 module _ (a b : List ℕ) where
   abbrev n : ℕ

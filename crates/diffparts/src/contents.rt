@@ -5,7 +5,6 @@ ghost use Rattle.safety.specs.Program.{instruction_in};
 ghost use Rattle.differences.specs.Records.{at_bit_8, contents};
 
 use differences::line::FIELDS;
-
 use reader::read_number;
 use record::instruction::Instruction;
 use record::offset::offset_number;
@@ -17,38 +16,39 @@ fn at_bit_8(i: Instruction) -> u64
     if i.branches() {
         return offset_number(i.offset);
     }
-    i.modifiers.m8 as u64
+    u64::from(i.modifiers.m8)
 }
 
 // The contents in the order of the list.
+#[tactic(auto, unfolding(differences::specs::Records::contents))]
 fn contents(i: Instruction) -> [u64; FIELDS]
     ensures { result ≡ contents i }
 {
     let s = i.sources;
     let m = i.modifiers;
     [
-        i.row as u64,
-        i.page as u64,
-        i.flow as u64,
-        i.register as u64 + 64 * i.half_mask as u64,
-        s.s0 as u64,
-        s.s1 as u64,
-        s.s2 as u64,
-        s.s3 as u64,
+        u64::from(i.row),
+        u64::from(i.page),
+        u64::from(i.flow),
+        u64::from(i.register) + 64 * u64::from(i.half_mask),
+        u64::from(s.s0),
+        u64::from(s.s1),
+        u64::from(s.s2),
+        u64::from(s.s3),
         at_bit_8(i),
-        m.m10 as u64,
-        m.m11 as u64,
-        m.m24 as u64,
-        m.m26 as u64,
-        m.m28 as u64,
-        m.m30 as u64,
-        m.m32 as u64,
-        m.m34 as u64,
-        m.m35 as u64,
-        m.m36 as u64,
-        m.m37 as u64,
-        m.m38 as u64,
-        m.m39 as u64,
+        u64::from(m.m10),
+        u64::from(m.m11),
+        u64::from(m.m24),
+        u64::from(m.m26),
+        u64::from(m.m28),
+        u64::from(m.m30),
+        u64::from(m.m32),
+        u64::from(m.m34),
+        u64::from(m.m35),
+        u64::from(m.m36),
+        u64::from(m.m37),
+        u64::from(m.m38),
+        u64::from(m.m39),
     ]
 }
 
@@ -57,11 +57,7 @@ pub fn take_contents(w: u64, out: &mut [u64; FIELDS])
     ensures { out.new ≡ contents (instruction_in (read_number w)) }
 {
     match read_number(w) {
-        Ok(i) => {
-            *out = contents(i);
-        }
-        Err(_) => {
-            *out = [0; FIELDS];
-        }
+        Ok(i) => *out = contents(i),
+        Err(_) => *out = [0; FIELDS],
     }
 }

@@ -32,6 +32,7 @@ fn format(bytes: &[u8]) -> Format
 }
 
 // The word at index i.
+#[tactic(auto, using(crate::proofs::PartLaws::word_here))]
 pub fn word(bytes: &[u8], i: usize) -> u64
     requires { Opens bytes.now × (i < count_of bytes.now) }
     ensures { result ≡ word_of bytes.now i }
@@ -43,6 +44,7 @@ pub fn word(bytes: &[u8], i: usize) -> u64
 }
 
 // The annotation at index i of n.
+#[tactic(auto, using(crate::proofs::PartLaws::note_here))]
 pub(crate) fn note(bytes: &[u8], n: usize, i: usize) -> Halves
     requires { Opens bytes.now × (n ≡ count_of bytes.now) × (i < n) }
     ensures { result ≡ note_of bytes.now i }
@@ -53,6 +55,7 @@ pub(crate) fn note(bytes: &[u8], n: usize, i: usize) -> Halves
 }
 
 // The entry set.
+#[tactic(auto, using(crate::proofs::PartLaws::entry_ends, crate::proofs::PartLaws::entry_here))]
 pub(crate) fn entry(bytes: &[u8]) -> Halves
     requires { Opens bytes.now }
     ensures { result ≡ entry_of bytes.now }

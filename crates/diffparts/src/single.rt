@@ -8,42 +8,33 @@ use crate::parts::{entry, note, version, word};
 use bits::halves::Halves;
 use differences::line::{HIGH_SET, LOW_SET, Line, ONE_SET, What};
 
-// The line of a part, if it has one.
-#[derive(Clone, Copy)]
-pub enum Single {
-    Told(Line),
-    Nothing,
+// The version whose sets are compared as one.
+const ONE_SET_VERSION: u64 = 1;
+
+// A line whatever the contents are.
+fn tell(what: What, index: usize, first: u64, second: u64) -> Option<Line>
+    ensures { single_told result ≡ line what index first second ∷ [] }
+{
+    Some(Line {
+        what,
+        index,
+        first,
+        second,
+    })
 }
 
 // A line where the contents differ.
-fn compare(what: What, index: usize, first: u64, second: u64) -> Single
+fn compare(what: What, index: usize, first: u64, second: u64) -> Option<Line>
     ensures { single_told result ≡ where_differs what index first second }
 {
     if first == second {
-        return Single::Nothing;
+        return None;
     }
-    Single::Told(Line {
-        what,
-        index,
-        first,
-        second,
-    })
-}
-
-// A line whatever the contents are.
-fn tell(what: What, index: usize, first: u64, second: u64) -> Single
-    ensures { single_told result ≡ line what index first second ∷ [] }
-{
-    Single::Told(Line {
-        what,
-        index,
-        first,
-        second,
-    })
+    tell(what, index, first, second)
 }
 
 // The versions.
-pub fn version_line<'a>(first: &'a [u8], second: &'a [u8]) -> Single
+pub fn version_line<'a>(first: &'a [u8], second: &'a [u8]) -> Option<Line>
     requires { Both first.now second.now }
     ensures { single_told result ≡ version_lines first.now second.now }
 {
@@ -54,10 +45,11 @@ pub fn version_line<'a>(first: &'a [u8], second: &'a [u8]) -> Single
 fn one_set(v: u64, w: u64) -> bool
     ensures { result ≡ (eqb v 1 && eqb w 1) }
 {
-    v == 1 && w == 1
+    v == ONE_SET_VERSION && w == ONE_SET_VERSION
 }
 
 // How many sets are compared.
+#[tactic(auto, using(differences::proofs::SetLaws::one_set, differences::proofs::SetLaws::two_sets))]
 fn set_count(v: u64, w: u64) -> usize
     ensures { result ≡ length (sets_of v w) }
 {
@@ -72,7 +64,14 @@ fn set_in(k: u8, s: Halves) -> u64
 }
 
 // Set k of the entry sets, where j is 0, or of the annotation at index j - 1.
-fn compare_set<'a>(first: &'a [u8], n: usize, second: &'a [u8], m: usize, j: usize, k: u8) -> Single
+fn compare_set<'a>(
+    first: &'a [u8],
+    n: usize,
+    second: &'a [u8],
+    m: usize,
+    j: usize,
+    k: u8,
+) -> Option<Line>
     requires { Counted first.now n second.now m × (j ≤ min n m) }
     ensures { single_told result ≡ set_line first.now second.now j k }
 {
@@ -95,7 +94,7 @@ fn in_turn(q: usize) -> u8
 }
 
 // Part q of the sets: those of the entry sets, then those of each annotation.
-fn line_of_set<'a>(first: &'a [u8], n: usize, second: &'a [u8], m: usize, q: usize) -> Single
+fn line_of_set<'a>(first: &'a [u8], n: usize, second: &'a [u8], m: usize, q: usize) -> Option<Line>
     requires { Counted first.now n second.now m × (q < set_count first.now second.now * (min n m + 1)) }
     ensures { single_told result ≡ set_part first.now second.now q }
 {
@@ -106,7 +105,13 @@ fn line_of_set<'a>(first: &'a [u8], n: usize, second: &'a [u8], m: usize, q: usi
 }
 
 // Part p, after those of the instructions that both have.
-pub fn line_of_part<'a>(first: &'a [u8], n: usize, second: &'a [u8], m: usize, p: usize) -> Single
+pub fn line_of_part<'a>(
+    first: &'a [u8],
+    n: usize,
+    second: &'a [u8],
+    m: usize,
+    p: usize,
+) -> Option<Line>
     requires { Counted first.now n second.now m × (min n m ≤ p) × (p < part_count first.now second.now) }
     ensures { single_told result ≡ single_lines first.now second.now p }
 {
@@ -116,7 +121,7 @@ pub fn line_of_part<'a>(first: &'a [u8], n: usize, second: &'a [u8], m: usize, p
     if p < m {
         return tell(What::Added, p, 0, word(second, p));
     }
-    line_of_set(first, n, second, m, p - larger(n, m))
+    line_of_set(first, n, second, m, p - n.max(m))
 }
 
 // How many parts there are, counted with the instructions that both have.
@@ -125,18 +130,5 @@ pub fn part_count<'a>(first: &'a [u8], n: usize, second: &'a [u8], m: usize) -> 
     ensures { result ≡ part_count first.now second.now }
 {
     let sets = set_count(version(first), version(second));
-    larger(n, m) + sets * (smaller(n, m) + 1)
-}
-
-// The smaller of two numbers, and the larger.
-pub fn smaller(n: usize, m: usize) -> usize
-    ensures { result ≡ min n m }
-{
-    if n < m { n } else { m }
-}
-
-pub fn larger(n: usize, m: usize) -> usize
-    ensures { result ≡ max n m }
-{
-    if n < m { m } else { n }
+    n.max(m) + sets * (n.min(m) + 1)
 }

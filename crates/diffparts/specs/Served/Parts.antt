@@ -1,12 +1,10 @@
 -- The parts of the list that come after the instructions that both have, where a part is an extra instruction, or a set of the entry sets
 -- or of an annotation that both have.
-use Rattle.std.specs.Prelude.{◌≡◌, List, [], ◌∷◌, ℕ, ◌+◌, ◌-◌, ◌*◌, ◌/◌, ◌%◌, max, eqb, ltb, length, get_or}
+use Rattle.std.specs.Prelude.{◌≡◌, Option, Some, None, List, [], ◌∷◌, ℕ, ◌+◌, ◌-◌, ◌*◌, ◌/◌, ◌%◌, max, eqb, ltb, length, get_or}
 use Rattle.bits.specs.Fields.{choose}
 use Rattle.container.specs.Container.{count_of}
 use Rattle.safety.specs.Program.{WellFormed}
 use Rattle.differences.specs.declared.line.Line.{Line}
-use Rattle.diffparts.specs.declared.single.Single.{Single}
-use Rattle.diffparts.specs.declared.single.Single.TheVariants.{Told as told, Nothing}
 use Rattle.differences.specs.Sets.{compared}
 use Rattle.differences.specs.Differences.{lines_from, shared, removed_line, added_line, entry_line, note_line}
 
@@ -35,9 +33,9 @@ abbrev pub part_count : List ℕ → List ℕ → ℕ
 part_count a b = longer a b + set_count a b * (shared a b + 1)
 
 -- the lines of an answer about one part
-abbrev pub single_told : Single → List Line
-single_told (told l) = l ∷ []
-single_told Nothing = []
+abbrev pub single_told : Option Line → List Line
+single_told (Some l) = l ∷ []
+single_told None = []
 
 -- set k of the entry sets, where j is 0, and of the annotations at index j - 1
 unfoldable pub set_line : List ℕ → List ℕ → ℕ → ℕ → List Line

@@ -1,18 +1,14 @@
-use mathlib.Core.Path.{sym, ◌∙◌}
-use Rattle.diff.proofs.ScanLaws.{skips, stays, passes_end}
+use Rattle.std.proofs.Common.{◌≡◌, get_or, arith, rules, tests}
+use Rattle.std.proofs.lemmas.Iterator.{first_from_Range}
+use Rattle.std.proofs.lemmas.List.{get_or_read}
+use Rattle.diff.proofs.ScanLaws.{searched}
 use Rattle.diff.proofs.cursor.differing.Goals as goal
-
-pub returns-then-xs-f : goal.returns-then-xs-f
-returns-then-xs-f c =
-    let a = c.args in
-    stays a.xs.now a.ys.now c.loop-f.f c.loop-f-test.true c.if-xs-f.true ∙ sym c.loop-f.invariant
-
-pub loop-f-preserved : goal.loop-f-preserved
-loop-f-preserved c =
-    let a = c.args in
-    c.loop-f.invariant ∙ skips a.xs.now a.ys.now c.loop-f.f c.loop-f-test.true c.if-xs-f.false
 
 pub returns : goal.returns
 returns c =
-    let a = c.args in
-    passes_end a.xs.now a.ys.now c.loop-f.f c.loop-f-test.false ∙ sym c.loop-f.invariant
+    let xs = c.args.xs.now in
+    let ys = c.args.ys.now in
+    searched xs ys c.args.from c.find.result
+    (first_from_Range _ _ _ _ (λ k. get_or xs k 0 ≡ get_or ys k 0 → ⊥) (λ k. get_or xs k 0 ≡ get_or ys k 0) c.find.ensures.ran
+    (λ x q k. grind (arith, tests, get_or_read))
+    (λ x q k. (search rules, grind (arith, tests, get_or_read))))

@@ -1,4 +1,5 @@
 use mathlib.Core.Path.{sym, subst}
+use Rattle.std.specs.Prelude.{Option}
 use Prim.Native.Nat.{ℕ}
 use Rattle.diff.specs.Served.Cursor.{Found}
 use Rattle.diff.proofs.WalkLaws.{found}
@@ -8,4 +9,4 @@ pub returns-then-load : goal.returns-then-load
 returns-then-load c =
     let a = c.args.first.now in
     let b = c.args.second.now in
-    subst (λ (r : ℕ). Found a b c.args.i r c.load.new.xs c.load.new.ys) (sym c.differing.ensures) (found a b c.args.i c.load.new.xs c.load.new.ys (c.load.ensures.differ c.if-load.true))
+    subst (λ (r : Option ℕ). Found a b c.args.i r c.load.new.xs c.load.new.ys) (sym c.differing.ensures) (found a b c.args.i c.load.new.xs c.load.new.ys (c.load.ensures.differ c.if-load.true))

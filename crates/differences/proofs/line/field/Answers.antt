@@ -45,14 +45,6 @@ middle f l h =
 is : (f n : ℕ) {x : What} → f ≡ n → x ≡ get_or fields n Row → x ≡ get_or fields f Row
 is f n e q = q ∙ ap (λ (k : ℕ). get_or fields k Row) (sym e)
 
-pub returns-then-f-ge8 : goal.returns-then-f-ge8
-unfolding fields
-returns-then-f-ge8 c = upper c.args.f c.if-f-ge8.true c.requires
-
-pub returns-then-f-ge4 : goal.returns-then-f-ge4
-unfolding fields
-returns-then-f-ge4 c = middle c.args.f c.if-f-ge4.true c.if-f-ge8.false
-
 pub returns-in-0 : goal.returns-in-0
 unfolding fields
 returns-in-0 c = is c.args.f 0 (omega arith) refl
@@ -65,6 +57,12 @@ pub returns-in-2 : goal.returns-in-2
 unfolding fields
 returns-in-2 c = is c.args.f 2 (omega arith) refl
 
-pub returns-in_default : goal.returns-in_default
+pub returns-in-3 : goal.returns-in-3
 unfolding fields
-returns-in_default c = is c.args.f 3 (omega arith) refl
+returns-in-3 c = is c.args.f 3 (omega arith) refl
+
+pub returns-in-4-to-7 : goal.returns-in-4-to-7
+returns-in-4-to-7 c = middle c.args.f (omega arith) (omega arith)
+
+pub returns-in_default : goal.returns-in_default
+returns-in_default c = upper c.args.f (omega arith) c.requires

@@ -1,12 +1,7 @@
-use Prim.Native.Nat.{◌-◌, ◌≤◌}
-use Rattle.differences.specs.Records.{field_count}
 use Rattle.differences.specs.Differences.{lines_from}
 use Rattle.diff.specs.Served.Cursor.{field_line}
 use Rattle.difflist.specs.Served.Placed.{Placed}
 use Rattle.difflist.proofs.list.put_fields.Given as goal
 
 abbrev pub invariant-loop-f : goal.invariant-loop-f
-invariant-loop-f l = (l.f ≤ field_count) × Placed (lines_from (field_line l.index l.xs l.ys) 0 l.f) l.k l.initial.out l.out l.n
-
-abbrev pub decreases-loop-f : goal.decreases-loop-f
-decreases-loop-f l = field_count - l.f
+invariant-loop-f l = Placed (lines_from (field_line l.index l.xs l.ys) 0 l.f) l.k l.initial.out l.out l.n

@@ -1,7 +1,6 @@
-use mathlib.Core.Path.{◌≡◌, sym, subst}
+use mathlib.Core.Path.{◌≡◌, subst}
 use mathlib.Core.List.{List}
 use Prim.Native.Nat.{ℕ, ◌+◌, ◌*◌, ◌<◌, ◌≤◌}
-use native.Mathlib.Nat.{zero-add}
 use native.Mathlib.Omega.{arith}
 use lib.ListN.{length}
 use Rattle.differences.specs.Records.{field_count}
@@ -10,7 +9,7 @@ use Rattle.differences.specs.Numbers.{most_lines}
 use Rattle.diffparts.specs.Served.Parts.{Both}
 use Rattle.difflist.specs.Served.Placed.{Placed}
 use Rattle.diff.proofs.FewLaws.{few_a, instruction_few}
-use Rattle.difflist.proofs.FillLaws.{no_index, index_placed, index_room}
+use Rattle.difflist.proofs.FillLaws.{no_index, next_placed, index_room}
 use Rattle.difflist.proofs.list.put_instructions.Goals as goal
 
 -- i of the instructions that both have are put, after k lines
@@ -47,21 +46,18 @@ module _ {a b o m : List ℕ} {both i k n : ℕ} (u : UnderWay a b o m both i k 
 pub loop-i-init : goal.loop-i-init
 loop-i-init c =
     let a = c.args in
-    (omega arith, no_index (instruction_lines a.first.now a.second.now) 0 a.k a.out.now)
+    no_index (instruction_lines a.first.now a.second.now) 0 a.k a.out.now
 
 pub put_instruction-n-requires : goal.put_instruction-n-requires
 put_instruction-n-requires c =
-    (c.requires.0, subst (λ (n : ℕ). c.loop-i.i < n) c.requires.1 c.loop-i-test.true, more (under_way c.requires c.loop-i.invariant) c.loop-i-test.true)
+    (c.requires.0, subst (λ (n : ℕ). c.loop-i.i < n) c.requires.1 c.loop-i-test.true, more (under_way c.requires (omega arith, c.loop-i.invariant)) c.loop-i-test.true)
 
 pub loop-i-preserved : goal.loop-i-preserved
 loop-i-preserved c =
-    let g = instruction_lines c.args.first.now c.args.second.now in (
-      omega (arith, c.loop-i-test.true),
-      index_placed g 0 c.loop-i.i c.args.k c.loop-i.invariant.1
-          (subst (λ (i : ℕ). Placed (g i) c.loop-i.n c.loop-i.out c.put_instruction-n.new.out c.put_instruction-n.result) (sym (zero-add c.loop-i.i)) c.put_instruction-n.ensures) (within (under_way c.requires c.loop-i.invariant)),
-    )
+    next_placed (instruction_lines c.args.first.now c.args.second.now) c.loop-i.i c.args.k c.loop-i.invariant c.put_instruction-n.ensures
+    (within (under_way c.requires (omega arith, c.loop-i.invariant)))
 
 pub returns : goal.returns
 returns c =
-    let e : c.loop-i.i ≡ c.args.shared = omega (arith, c.loop-i.invariant.0, c.loop-i-test.false) in
-    subst (λ (i : ℕ). Placed (lines_from (instruction_lines c.args.first.now c.args.second.now) 0 i) c.args.k c.args.out.now c.loop-i.out c.loop-i.n) e c.loop-i.invariant.1
+    let e : c.loop-i.i ≡ c.args.shared = omega arith in
+    subst (λ (i : ℕ). Placed (lines_from (instruction_lines c.args.first.now c.args.second.now) 0 i) c.args.k c.args.out.now c.loop-i.out c.loop-i.n) e c.loop-i.invariant

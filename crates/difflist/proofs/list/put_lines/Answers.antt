@@ -51,10 +51,10 @@ pub put_parts-requires : goal.put_parts-requires
 put_parts-requires c =
     let w = c.requires.0 in
     let v = c.put_version-k.ensures in
-    let e = c.smaller.ensures in
+    let e = c.min.ensures in
     let p = c.put_instructions-l.ensures in
     (w, few w c.requires.1 v e p, (room w c.requires.1 v e p).1 ∙ (one w c.requires.1 v).1 ∙ c.requires.1)
 
 pub returns : goal.returns
 returns c =
-    whole c.requires.0 c.requires.1 c.put_version-k.ensures c.smaller.ensures c.put_instructions-l.ensures c.put_parts.ensures
+    whole c.requires.0 c.requires.1 c.put_version-k.ensures c.min.ensures c.put_instructions-l.ensures c.put_parts.ensures

@@ -77,28 +77,26 @@ module _ {a b o q : List ℕ} {k x end p l : ℕ} (u : UnderWay a b o q k x end 
 
 pub loop-p-init : goal.loop-p-init
 loop-p-init c =
-    let n = c.smaller-shared.result in
+    let n = c.min-p.result in
     let g = single_lines c.args.first.now c.args.second.now in
-    (omega arith, omega (arith, c.smaller-shared.ensures, c.part_count-end.ensures, c.requires.0), subst (λ (x : ℕ). Placed (lines_from g n x) c.args.k c.args.out.now c.args.out.now c.args.k) (sym (sub_self n)) (no_index g n c.args.k c.args.out.now))
+    subst (λ (x : ℕ). Placed (lines_from g n x) c.args.k c.args.out.now c.args.out.now c.args.k) (sym (sub_self n)) (no_index g n c.args.k c.args.out.now)
 
 pub put_part-l-requires : goal.put_part-l-requires
 put_part-l-requires c =
-    let u = under_way c.requires c.smaller-shared.ensures c.part_count-end.ensures c.loop-p.invariant in
+    let u = under_way c.requires c.min-p.ensures c.part_count-p-end.ensures (omega arith, omega arith, c.loop-p.invariant) in
     (c.requires.0, from_shared u, below_end u c.loop-p-test.true, more u c.loop-p-test.true)
 
 pub loop-p-preserved : goal.loop-p-preserved
 loop-p-preserved c =
-    let n = c.smaller-shared.result in
+    let n = c.min-p.result in
     let p = c.loop-p.p in
     let g = single_lines c.args.first.now c.args.second.now in
-    let e : n + (p - n) ≡ p = omega (arith, c.loop-p.invariant.0) in
-    let d : p - n + 1 ≡ p + 1 - n = omega (arith, c.loop-p.invariant.0) in (
-      omega (arith, c.loop-p.invariant.0),
-      omega (arith, c.loop-p-test.true),
-      subst (λ (x : ℕ). Placed (lines_from g n x) c.args.k c.args.out.now c.put_part-l.new.out c.put_part-l.result) d
-          (index_placed g n (p - n) c.args.k c.loop-p.invariant.2
-          (subst (λ (x : ℕ). Placed (g x) c.loop-p.l c.loop-p.out c.put_part-l.new.out c.put_part-l.result) (sym e) c.put_part-l.ensures) (within (under_way c.requires c.smaller-shared.ensures c.part_count-end.ensures c.loop-p.invariant))),
-    )
+    let e : n + (p - n) ≡ p = omega arith in
+    let d : p - n + 1 ≡ p + 1 - n = omega arith in
+    subst (λ (x : ℕ). Placed (lines_from g n x) c.args.k c.args.out.now c.put_part-l.new.out c.put_part-l.result) d
+    (index_placed g n (p - n) c.args.k c.loop-p.invariant
+    (subst (λ (x : ℕ). Placed (g x) c.loop-p.l c.loop-p.out c.put_part-l.new.out c.put_part-l.result) (sym e) c.put_part-l.ensures)
+    (within (under_way c.requires c.min-p.ensures c.part_count-p-end.ensures (omega arith, omega arith, c.loop-p.invariant))))
 
 pub returns : goal.returns
-returns c = all (under_way c.requires c.smaller-shared.ensures c.part_count-end.ensures c.loop-p.invariant) c.loop-p-test.false
+returns c = all (under_way c.requires c.min-p.ensures c.part_count-p-end.ensures (omega arith, omega arith, c.loop-p.invariant)) c.loop-p-test.false

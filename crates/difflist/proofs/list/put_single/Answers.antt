@@ -8,9 +8,9 @@ use Rattle.difflist.proofs.list.put_single.Goals as goal
 
 pub put_line-requires : goal.put_line-requires
 put_line-requires c =
-    let l = c.in-Told.line in
-    (c.requires.0 l (subst (Memᴰ l) (ap single_told (sym c.in-Told.is)) (Memᴰ.head refl)), c.requires.1)
+    let l = c.in-Some.line in
+    (c.requires.0 l (subst (Memᴰ l) (ap single_told (sym c.in-Some.is)) (Memᴰ.head refl)), c.requires.1)
 
-pub returns-in-Nothing : goal.returns-in-Nothing
-returns-in-Nothing c =
-    subst (λ (l : List Line). Placed l c.args.k c.args.out.now c.args.out.now c.args.k) (ap single_told (sym c.in-Nothing.is)) (none_placed c.args.k c.args.out.now)
+pub returns-in-None : goal.returns-in-None
+returns-in-None c =
+    subst (λ (l : List Line). Placed l c.args.k c.args.out.now c.args.out.now c.args.k) (ap single_told (sym c.in-None.is)) (none_placed c.args.k c.args.out.now)

@@ -30,5 +30,5 @@ returns c =
     let a = c.args.first.now in
     let b = c.args.second.now in
     c.line_of_set.ensures
-    ∙ ap (λ (x : ℕ). set_part a b (p - x)) (c.larger.ensures ∙ ap₂ max k.first_count k.second_count)
+    ∙ ap (λ (x : ℕ). set_part a b (p - x)) (c.max.ensures ∙ ap₂ max k.first_count k.second_count)
     ∙ at_set a b p (omega (arith, c.if-p-n.false, k.first_count)) (omega (arith, c.if-p-m.false, k.second_count))

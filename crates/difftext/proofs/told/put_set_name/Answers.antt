@@ -4,10 +4,10 @@ use Rattle.text.proofs.TextLaws.{same_text}
 use Rattle.difftext.proofs.told.put_set_name.Goals as goal
 use Rattle.std.proofs.lemmas.Grind.{common_steps}
 
-pub returns-then-k-eq-LOW_SET : goal.returns-then-k-eq-LOW_SET
+pub returns-in-1 : goal.returns-in-1
 unfolding ascii
-returns-then-k-eq-LOW_SET c = grind (arith, common_steps, same_text)
+returns-in-1 c = grind (arith, common_steps, same_text)
 
-pub returns-then-k-eq-HIGH_SET : goal.returns-then-k-eq-HIGH_SET
+pub returns-in-2 : goal.returns-in-2
 unfolding ascii
-returns-then-k-eq-HIGH_SET c = grind (arith, common_steps, same_text)
+returns-in-2 c = grind (arith, common_steps, same_text)
