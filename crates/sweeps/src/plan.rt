@@ -8,7 +8,6 @@ ghost use Rattle.sweeps.specs.Served.Plan.{step, Planned, Sized};
 
 use bits::halves::Halves;
 use flow::{branch_target, fills};
-
 use record::instruction::Instruction;
 use safety::verdict::{Verdict, refused};
 use verifier::program::reading_at;

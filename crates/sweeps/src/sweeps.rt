@@ -98,7 +98,10 @@ pub fn rest(
     if version == 1 {
         return low;
     }
-    let plan = Plan { fills: highs, ..plan };
+    let plan = Plan {
+        fills: highs,
+        ..plan
+    };
     let high = plan.rest(new, high_notes);
     low.max(high)
 }
