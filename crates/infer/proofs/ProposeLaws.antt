@@ -1,10 +1,10 @@
 -- From words to a proposal: how the sweeps begin, and what they leave. Assumes nothing.
 use mathlib.Core.Path.{◌≡◌, refl, sym, ap, ◌∙◌}
-use mathlib.Core.List.{List, [], ◌++◌, append-nil}
+use mathlib.Core.List.{List, []}
 use Prim.Native.Nat.{ℕ, zero, suc, ◌^◌, ◌<◌, ◌≤◌}
 use native.Mathlib.Omega.{arith}
-use lib.ListN.{length, get_or, set, take, drop, replicate, drop_of_length-le, length-set, length-take, length-replicate, get_or-replicate}
-use lib.Seq.{get_or-set_same, get_or-set_other, get_or-take, take-length}
+use lib.ListN.{length, get_or, set, take, replicate, length-set, length-take, length-replicate, get_or-replicate}
+use lib.Seq.{get_or-set_same, get_or-set_other, get_or-take}
 use Rattle.bits.specs.Halves.{Half, lower, upper, half_of, halves, both}
 use Rattle.bits.specs.declared.halves.Halves.{Halves}
 use Rattle.bits.specs.Outcomes.{Outcome, gives, refuses, passes, ◌then◌, first}
@@ -30,10 +30,6 @@ first_holds p h l some f = record { long = length-set l 0 (half_of h p.entry) �
     are zero q = get_or-set_same l 0 (half_of h p.entry) 0 (omega (arith, f.long))
     are (suc j) q = get_or-set_other l 0 (suc j) (half_of h p.entry) 0 (λ e. omega arith) ∙ f.all (suc j) q ∙ sym (half_of_both h all_registers)
 
--- a store keeps the length
-pub stored_long : (l : List ℕ) (v : ℕ) {n : ℕ} → length l ≡ n → n ≡ length (set l 0 v)
-stored_long l v e = sym (length-set l 0 v ∙ e)
-
 -- how long the code's lists are
 abbrev list_room : ℕ
 list_room = 2056
@@ -44,10 +40,6 @@ full n h = record {
   long = length-take n (replicate list_room all_registers) ∙ omega (arith, length-replicate list_room all_registers);
   all = λ j l. get_or-take n (replicate list_room all_registers) j 0 l ∙ get_or-replicate list_room j all_registers 0 (omega arith);
 }
-
--- the first n of a list of one number
-pub prefix : (v n : ℕ) → n ≤ most_instructions → n ≡ length (take n (replicate list_room v))
-prefix v n h = sym (length-take n (replicate list_room v) ∙ omega (arith, length-replicate list_room v))
 
 module _ (v : ℕ) (words : List ℕ) (n : ℕ) (entry : Halves) where
   abbrev pub P : Program
@@ -97,7 +89,3 @@ module _ (v : ℕ) (words : List ℕ) (n : ℕ) (entry : Halves) (offer : List �
   pub holds_back : {f : Finding} → j ≡ refuses f → {r : Outcome Finding ℕ} → r ≡ refuses none_acceptable → Handed v words n entry offer k buffer r buffer
   unfolding ◌then◌
   holds_back p q = rw q (record { answers = rw (sym e ∙ p); leaves = refl })
-
--- a list copied over one of the same length
-pub copied_all : (new old : List ℕ) → length old ≡ length new → take (length new) new ++ drop (length new) old ≡ new
-copied_all new old e = rw (take-length new, drop_of_length-le old {i = length new} (omega arith)) (append-nil new)

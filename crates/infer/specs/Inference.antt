@@ -1,21 +1,18 @@
 -- What the maker of annotations (the paper's notes) answers, for any version, words, entry set and buffer, and what the buffer holds
 -- afterwards (02, Items 1 and 7).
-use Rattle.std.specs.Prelude.{List, [], ℕ, length}
+use Rattle.std.specs.Prelude.{List, [], ℕ, Result, length}
 use Rattle.bits.specs.declared.halves.Halves.{Halves}
-use Rattle.bits.specs.Outcomes.{Outcome, gives, refuses, passes, require, ◌then◌, kept_or, first}
+use Rattle.bits.specs.Outcomes.{Outcome, outcome, gives, refuses, passes, require, ◌then◌, kept_or, first}
 use Rattle.container.specs.Formats.{known}
 use Rattle.packing.specs.Packing.{word_count, fitting, taken, container_bytes}
 use Rattle.safety.specs.declared.verdict.Finding.{Finding}
 use Rattle.safety.specs.Program.{Program, program_in}
 use Rattle.safety.specs.Verdict.{Judgement, judge_word, verdict_of, plain}
-use Rattle.sweeps.specs.declared.answer.Inference.{Inference}
-use Rattle.sweeps.specs.declared.answer.Inference.TheVariants.{Proposed, Refused}
 use Rattle.sweeps.specs.Sweeps.{sweeps, proposal}
 
 -- the outcome that each answer stands for: the number of sweeps, or a refusal with a check's fields
-abbrev pub inference_outcome : Inference → Outcome Finding ℕ
-inference_outcome (Proposed k) = gives k
-inference_outcome (Refused f) = refuses f
+abbrev pub inference_outcome : Result ℕ Finding → Outcome Finding ℕ
+inference_outcome a = outcome a
 
 -- the program of a version, some words and an entry set, of which version 1 takes the low halves for both; its annotations are empty and
 -- play no part

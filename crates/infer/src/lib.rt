@@ -5,6 +5,7 @@ ghost use Rattle.std.specs.Prelude.{◌≡◌, true, ◌*◌, ◌<◌, length};
 ghost use Rattle.container.specs.Formats.{known, annotation_length};
 ghost use Rattle.bits.specs.Outcomes.{refuses};
 ghost use Rattle.packing.specs.Packing.{word_count, Fitting, taken};
+ghost use Rattle.reasons.specs.Numbers.{number_of};
 ghost use Rattle.safety.specs.Program.{Worded, Annotated};
 ghost use Rattle.safety.specs.Verdict.{plain};
 ghost use Rattle.infer.specs.Inference.{inference_outcome};
@@ -16,19 +17,13 @@ use bits::halves::{Halves, both};
 use container::format::{format_of, known};
 use container::layout::{LONGEST_ANNOTATION, MOST_INSTRUCTIONS, WORD_LENGTH};
 use packing::fit;
-use safety::verdict::{Verdict, plain};
+use reasons::Reason;
+use safety::verdict::plain;
 use sweeps::answer::Inference;
 use sweeps::encode::encode;
 use sweeps::plan::make_plan;
 use sweeps::sweeps::rest;
 use verifier::program::judge_words;
-
-// The numbers of the refusals, by reason.
-const WRONG_VERSION: u8 = 11;
-
-const WRONG_LENGTH: u8 = 12;
-
-const NONE_ACCEPTABLE: u8 = 24;
 
 // All 64 registers.
 const ALL: u64 = 0xFFFFFFFFFFFFFFFF;
@@ -38,10 +33,10 @@ const ALL: u64 = 0xFFFFFFFFFFFFFFFF;
 const LIST_ROOM: usize = MOST_INSTRUCTIONS + 8;
 
 // A refusal that concerns no instruction and no register.
-fn refuse(number: u8) -> Inference
-    ensures { inference_outcome result ≡ refuses (plain number 0 0) }
+fn refuse(reason: Reason) -> Inference
+    ensures { inference_outcome result ≡ refuses (plain (number_of reason) 0 0) }
 {
-    Inference::Refused(plain(number, 0, 0))
+    Err(plain(reason.number(), 0, 0))
 }
 
 // An entry set as a version takes it: where it has no place for the high halves, the low ones stand for both.
@@ -55,44 +50,8 @@ fn taken(version: u64, entry: Halves) -> Halves
     entry
 }
 
-// Reads the words, sweeps in buffers of n entries each, and puts the annotations that were found into a buffer of their length. Refuses the
-// lowest word that does not read.
-fn sweep_words(
-    version: u64,
-    words: &[u8],
-    n: usize,
-    entry: Halves,
-    kills: &mut [u64],
-    lows: &mut [u64],
-    highs: &mut [u64],
-    falls: &mut [usize],
-    jumps: &mut [usize],
-    new: &mut [u64],
-    low_notes: &mut [u64],
-    high_notes: &mut [u64],
-    out: &mut [u8],
-) -> Inference
-    requires { Ready version words.now n entry × Sized kills.old lows.old falls.old jumps.old n × (length highs.old ≡ n) × (length new.old ≡ n) × Full low_notes.old n × Full high_notes.old n × (length out.old ≡ annotation_length version * n) }
-    ensures { Swept version words.now n entry (inference_outcome result) out.new }
-{
-    let v = make_plan(version, words, n, kills, lows, highs, falls, jumps);
-    match v {
-        Ok(()) => {
-            low_notes[0] = entry.low;
-            high_notes[0] = entry.high;
-            let k = rest(
-                version, kills, lows, highs, falls, jumps, new, low_notes, high_notes,
-            );
-            encode(version, low_notes, high_notes, out);
-            return Inference::Proposed(k);
-        }
-        Err(f) => {
-            return Inference::Refused(f);
-        }
-    }
-}
-
-// The same in memory of its own.
+// Reads the words, sweeps in memory of its own, and puts the annotations that were found into a buffer of their length. Refuses the lowest
+// word that does not read.
 fn propose(version: u64, words: &[u8], n: usize, entry: Halves, out: &mut [u8]) -> Inference
     requires { Ready version words.now n entry × (length out.old ≡ annotation_length version * n) }
     ensures { Swept version words.now n entry (inference_outcome result) out.new }
@@ -105,21 +64,22 @@ fn propose(version: u64, words: &[u8], n: usize, entry: Halves, out: &mut [u8]) 
     let mut new = [0u64; LIST_ROOM];
     let mut low_notes = [ALL; LIST_ROOM];
     let mut high_notes = [ALL; LIST_ROOM];
-    sweep_words(
-        version,
-        words,
-        n,
-        entry,
-        &mut kills[..n],
-        &mut lows[..n],
-        &mut highs[..n],
-        &mut falls[..n],
-        &mut jumps[..n],
-        &mut new[..n],
-        &mut low_notes[..n],
-        &mut high_notes[..n],
-        out,
-    )
+    let kills = &mut kills[..n];
+    let lows = &mut lows[..n];
+    let highs = &mut highs[..n];
+    let falls = &mut falls[..n];
+    let jumps = &mut jumps[..n];
+    let new = &mut new[..n];
+    let low_notes = &mut low_notes[..n];
+    let high_notes = &mut high_notes[..n];
+    make_plan(version, words, n, kills, lows, highs, falls, jumps)?;
+    low_notes[0] = entry.low;
+    high_notes[0] = entry.high;
+    let k = rest(
+        version, kills, lows, highs, falls, jumps, new, low_notes, high_notes,
+    );
+    encode(version, low_notes, high_notes, out);
+    Ok(k)
 }
 
 // Hands a proposal to the check and, where that accepts it, to the caller.
@@ -135,35 +95,13 @@ fn hand_over<'a>(
     requires { Worded words.now n × Annotated version proposal.now n × (0 < n) × (length annotations.old ≡ length proposal.now) }
     ensures { Handed version words.now n entry proposal.now k annotations.old (inference_outcome result) annotations.new }
 {
-    let v = judge_words(version, words, proposal, n, entry);
-    match v {
+    // Whatever the check finds is told as one refusal.
+    match judge_words(version, words, proposal, n, entry) {
         Ok(()) => {
-            bits::bytes::copy(proposal, annotations);
-            return Inference::Proposed(k);
+            annotations.copy_from_slice(proposal);
+            Ok(k)
         }
-        Err(_) => {
-            return refuse(NONE_ACCEPTABLE);
-        }
-    }
-}
-
-// Proposes annotations by way of a buffer of their length.
-fn infer_in(
-    version: u64,
-    words: &[u8],
-    n: usize,
-    entry: Halves,
-    proposal: &mut [u8],
-    annotations: &mut [u8],
-) -> Inference
-    requires { (known version ≡ true) × (n ≡ word_count (length words.now)) × Fitting version (length words.now) (length annotations.old) × (length proposal.old ≡ length annotations.old) }
-    ensures { Inferred version words.now entry annotations.old (inference_outcome result) annotations.new }
-{
-    let held = taken(version, entry);
-    let found = propose(version, words, n, held, proposal);
-    match found {
-        Inference::Proposed(k) => { hand_over(version, words, n, held, proposal, k, annotations) }
-        Inference::Refused(f) => Inference::Refused(f),
+        Err(_) => refuse(Reason::NoneAcceptable),
     }
 }
 
@@ -173,13 +111,15 @@ pub fn infer(version: u64, words: &[u8], entry: Halves, annotations: &mut [u8]) 
     ensures { Inferred version words.now entry annotations.old (inference_outcome result) annotations.new }
 {
     if !known(version) {
-        return refuse(WRONG_VERSION);
+        return refuse(Reason::WrongVersion);
     }
     if !fit(version, words.len(), annotations.len()) {
-        return refuse(WRONG_LENGTH);
+        return refuse(Reason::WrongLength);
     }
     let n = words.len() / WORD_LENGTH;
-    let end = annotations.len();
+    let held = taken(version, entry);
     let mut proposal = [0u8; LONGEST_ANNOTATION * MOST_INSTRUCTIONS];
-    infer_in(version, words, n, entry, &mut proposal[..end], annotations)
+    let proposal = &mut proposal[..annotations.len()];
+    let k = propose(version, words, n, held, proposal)?;
+    hand_over(version, words, n, held, proposal, k, annotations)
 }

@@ -18,9 +18,9 @@ use container::layout::{LONGEST_ANNOTATION, LONGEST_CONTAINER, MOST_INSTRUCTIONS
 use infer::infer;
 use input::Input;
 use packing::pack;
-use safety::verdict::{Finding, Verdict, plain};
+use reasons::Reason;
+use safety::verdict::{Finding, plain};
 use std::io::Read;
-use sweeps::answer::Inference;
 use verdictline::{LONGEST_VERDICT, write_verdict};
 
 // What stands before the words: the version, and from byte 8 on the entry set, its low halves and its high halves.
@@ -30,9 +30,6 @@ const ENTRY: usize = 8;
 
 // One byte more than that and the most words: what is longer is refused by this part alone.
 const MOST: usize = FRONT_LENGTH + WORD_LENGTH * MOST_INSTRUCTIONS + 1;
-
-// The number of the refusal, by its reason.
-const WRONG_LENGTH: u8 = 12;
 
 // Reads that part, or all where there is less.
 fn read_part(reader: &mut impl Read, buffer: &mut [u8]) -> Input
@@ -46,13 +43,6 @@ fn tell(errors: &impl Print, text: &[u8]) -> bool {
     errors.write_all(text).is_ok()
 }
 
-// Tells a number between two texts.
-fn tell_number(errors: &impl Print, before: &[u8], n: u64, after: &[u8]) {
-    tell(errors, before);
-    errors.print(n).is_ok();
-    tell(errors, after);
-}
-
 // The one way to standard output: the text is the container that is made of what was read. It is written until all of it is, or until a
 // write fails.
 fn send(output: &impl Print, bytes: &[u8], input: Input, k: usize, text: &[u8]) -> bool
@@ -64,7 +54,7 @@ fn send(output: &impl Print, bytes: &[u8], input: Input, k: usize, text: &[u8]) 
 fn tell_sweeps(errors: &impl Print, bytes: &[u8], input: Input, k: usize)
     requires { Read input bytes.now × (answer_to bytes.now ≡ gives k) }
 {
-    tell_number(errors, b"maker: ", k as u64, b" sweeps\n");
+    let _ = println!(errors; "maker: {k} sweeps");
 }
 
 fn tell_verdict(errors: &impl Print, bytes: &[u8], input: Input, f: Finding, line: &[u8])
@@ -77,61 +67,12 @@ fn tell_verdict(errors: &impl Print, bytes: &[u8], input: Input, f: Finding, lin
 fn refuse(errors: &impl Print, bytes: &[u8], input: Input, f: Finding)
     requires { Read input bytes.now × (answer_to bytes.now ≡ refuses f) }
 {
-    let v = Err(f);
     let mut line = [0u8; LONGEST_VERDICT];
-    let n = write_verdict(v, &mut line);
+    let n = write_verdict(Err(f), &mut line);
     tell_verdict(errors, bytes, input, f, &line[..n]);
 }
 
-// Packs what was proposed after k sweeps, and sends it.
-fn deliver<'a>(
-    output: &impl Print,
-    errors: &impl Print,
-    bytes: &'a [u8],
-    input: Input,
-    version: u64,
-    entry: Halves,
-    words: &'a [u8],
-    notes: &'a [u8],
-    k: usize,
-    out: &mut [u8],
-)
-    requires { Read input bytes.now × Parted bytes.now version entry words.now × (answer_to bytes.now ≡ gives k) × (notes.now ≡ notes_for bytes.now) × (known version ≡ true) × Fitting version (length words.now) (length notes.now) × (length out.old ≡ container_length version (word_count (length words.now))) }
-{
-    pack(version, entry, words, notes, out);
-    if send(output, bytes, input, k, out) {
-        tell_sweeps(errors, bytes, input, k);
-    } else {
-        tell(errors, b"maker: standard output cannot be written\n");
-    }
-}
-
-// Makes a container in lent buffers for its annotations and for all of it.
-fn make_in<'a>(
-    output: &impl Print,
-    errors: &impl Print,
-    bytes: &'a [u8],
-    input: Input,
-    version: u64,
-    entry: Halves,
-    words: &'a [u8],
-    notes: &mut [u8],
-    out: &mut [u8],
-)
-    requires { Read input bytes.now × Parted bytes.now version entry words.now × (notes.old ≡ blank version words.now) × (length out.old ≡ container_length version (word_count (length words.now))) }
-{
-    let answer = infer(version, words, entry, notes);
-    match answer {
-        Inference::Proposed(k) => {
-            deliver(
-                output, errors, bytes, input, version, entry, words, notes, k, out,
-            )
-        }
-        Inference::Refused(f) => refuse(errors, bytes, input, f),
-    }
-}
-
-// The same in memory of its own.
+// Packs what is proposed for the words, and sends it, or tells why nothing is.
 fn make<'a>(
     output: &impl Print,
     errors: &impl Print,
@@ -143,23 +84,23 @@ fn make<'a>(
 )
     requires { Read input bytes.now × Parted bytes.now version entry words.now }
 {
+    let n = words.len() / WORD_LENGTH;
     let mut notes = [0u8; LONGEST_ANNOTATION * MOST_INSTRUCTIONS];
     let mut out = [0u8; LONGEST_CONTAINER];
-    let n = words.len() / WORD_LENGTH;
-    let f = format_of(version);
-    let end = f.annotation * n;
-    let whole = container_length(version, n);
-    make_in(
-        output,
-        errors,
-        bytes,
-        input,
-        version,
-        entry,
-        words,
-        &mut notes[..end],
-        &mut out[..whole],
-    );
+    let notes = &mut notes[..format_of(version).annotation * n];
+    let out = &mut out[..container_length(version, n)];
+    match infer(version, words, entry, notes) {
+        Ok(k) => {
+            // What is proposed has the lengths of a container, so this packs it.
+            let _ = pack(version, entry, words, notes, out);
+            if send(output, bytes, input, k, out) {
+                tell_sweeps(errors, bytes, input, k);
+            } else {
+                tell(errors, b"maker: standard output cannot be written\n");
+            }
+        }
+        Err(f) => refuse(errors, bytes, input, f),
+    }
 }
 
 // Makes a container of what was read. An input that is too short for what stands before the words is refused like words of a wrong length:
@@ -168,7 +109,7 @@ fn report(output: &impl Print, errors: &impl Print, bytes: &[u8], input: Input)
     requires { Read input bytes.now }
 {
     if bytes.len() < FRONT_LENGTH {
-        refuse(errors, bytes, input, plain(WRONG_LENGTH, 0, 0));
+        refuse(errors, bytes, input, plain(Reason::WrongLength as u8, 0, 0));
         return;
     }
     let version = load64(&bytes[..ENTRY]);

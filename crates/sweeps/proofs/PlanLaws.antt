@@ -1,17 +1,16 @@
 -- The lists that the code keeps hold what the definition of a sweep of one half says. Assumes nothing.
 use mathlib.Core.Path.{◌≡◌, refl, sym, ap, ◌∙◌, subst}
-use mathlib.Core.Bool.{Bool, true, false, ◌||◌, ◌&&◌, not}
-use mathlib.Core.List.{List, [], ◌∷◌, ◌++◌, append_assoc, append-nil}
+use mathlib.Core.Bool.{Bool, true, false, ◌||◌}
+use mathlib.Core.List.{List, [], ◌∷◌}
 use Prim.Native.Nat.{ℕ, zero, suc, ◌+◌, ◌<◌, ◌≤◌}
-use native.Mathlib.Nat.{add-zero}
 use native.Mathlib.Numerals.{add-one}
 use native.Mathlib.Omega.{arith}
 use borrow.Author.Count.{below_more}
-use borrow.Author.Tests.{eqb-true, eqb-false, eq-eqb, ne_eqb, ltb-false}
+use borrow.Author.Tests.{eqb-true, eqb-false, ne_eqb, ltb-false}
 use lib.Dec.{eqb, ltb}
 use lib.IntN.{ℤ, pos, negsuc, ◌+ℤ◌}
-use lib.ListN.{length, get_or, set, take, drop, length-set, length-take, drop_of_length-le}
-use lib.Seq.{get_or-set_same, get_or-set_other, drop-cons, take-suc, set_at, take_all, get_or-append-add, get_or-drop}
+use lib.ListN.{length, get_or, set, length-set}
+use lib.Seq.{get_or-set_same, get_or-set_other}
 use Rattle.bits.proofs.FirstLaws.{first_stop}
 use Rattle.bits.specs.Fields.{choose}
 use Rattle.bits.specs.Sets.{intersection, minus, union}
@@ -27,7 +26,7 @@ use Rattle.container.specs.Container.{eight}
 use Rattle.safety.specs.Program.{Program, successors, landing, fills, instruction_in, instruction_at, program_in}
 use Rattle.safety.specs.Verdict.{Judgement, judge_reading, judge_word, plain}
 use Rattle.sweeps.specs.Sweeps.{among}
-use Rattle.sweeps.specs.Served.Tracks.{left_of, narrowed_set, swept_set, same_sets}
+use Rattle.sweeps.specs.Served.Tracks.{left_of, narrowed_set, swept_set}
 use Rattle.sweeps.specs.declared.plan.Step.{Step}
 use Rattle.sweeps.specs.Served.Plan.{falls_to, jumps_to, step, Planned, Sized, narrow_at, left_by, swept_list}
 
@@ -196,42 +195,3 @@ sized_set {ks} {ds} {fs} {js} t a b c d z = record {
 -- the same with another list of fills
 pub sized_with : {ks ds es fs js : List ℕ} {n : ℕ} → Sized ks ds fs js n → length es ≡ n → Sized ks es fs js n
 sized_with z e = record { kills = z.kills; fills = e; falls = z.falls; jumps = z.jumps }
-
--- one element more of one list, the rest of another
-pub took : (new old : List ℕ) (i : ℕ) {l : List ℕ} → l ≡ take i new ++ drop i old → i < length new → i < length old
-    → set l i (get_or new i 0) ≡ take (i + 1) new ++ drop (i + 1) old
-took new old i {l} e h k =
-    rw (add-one i, e, drop-cons old i 0 k, take-suc new i 0 h, append_assoc)
-    (set_at (take i new) (get_or old i 0) (drop (suc i) old) (get_or new i 0) i (length-take i new ∙ omega arith))
-
--- all of one list
-pub took_all : (new old : List ℕ) (i : ℕ) {l : List ℕ} → l ≡ take i new ++ drop i old → length new ≡ i → length old ≡ i → l ≡ new
-took_all new old i e h k = e ∙ rw (take_all i new (omega arith), drop_of_length-le old {i = i} (omega arith)) (append-nil new)
-
--- one comparison more
-module _ (a b : ℕ → ℕ) (i : ℕ) {t : Bool} (e : t ≡ not (same_sets i a b)) where
-  pub differs : ¬ (b i ≡ a i) → true ≡ not (same_sets (i + 1) a b)
-  unfolding same_sets
-  differs n = rw (add-one i, ne_eqb (a i) (b i) (λ q. n (sym q))) (sym (ap not (and_false (same_sets i a b))))
-    where
-      and_false : (x : Bool) → x && false ≡ false
-      and_false true = refl
-      and_false false = refl
-
-  pub agrees : b i ≡ a i → t ≡ not (same_sets (i + 1) a b)
-  unfolding same_sets
-  agrees q = e ∙ rw (add-one i, eq-eqb (a i) (b i) (sym q)) (ap not (sym (and_true (same_sets i a b))))
-    where
-      and_true : (x : Bool) → x && true ≡ x
-      and_true true = refl
-      and_true false = refl
-
--- the next element is still the other list's
-pub yet : (new old : List ℕ) (i : ℕ) {l : List ℕ} → l ≡ take i new ++ drop i old → i < length new → i < length old → get_or l i 0 ≡ get_or old i 0
-yet new old i {l} e h k =
-    let n : length (take i new) ≡ i = length-take i new ∙ omega arith in
-    ap (λ (x : List ℕ). get_or x i 0) e
-    ∙ ap (λ (j : ℕ). get_or (take i new ++ drop i old) j 0) (sym n ∙ sym (add-zero (length (take i new))))
-    ∙ get_or-append-add (take i new) (drop i old) 0 0
-    ∙ get_or-drop i old 0 0
-    ∙ ap (λ (j : ℕ). get_or old j 0) (add-zero i)

@@ -1,12 +1,17 @@
 -- Lists of sets, and of sets of halves, that are the same below some index. Assumes nothing.
 use mathlib.Core.Path.{◌≡◌, refl, sym, ap, ap₂, ◌∙◌}
 use mathlib.Core.Bool.{Bool, true, false, ◌&&◌}
+use mathlib.Core.List.{List}
 use mathlib.Core.Logic.{⊎_elim}
 use Prim.Native.Nat.{ℕ, zero, suc, ◌<◌}
 use native.Mathlib.Nat.{eq-or-lt_of_le, le_of_suc-le-suc}
 use native.Mathlib.Omega.{arith}
 use borrow.Author.Tests.{eqb-true, eq-eqb}
 use lib.Dec.{eqb}
+use lib.ListN.{length, get_or}
+use lib.Pointwise.{pointwise, bytes_decides}
+use Rattle.std.proofs.lemmas.List.{ext_get_or}
+use Rattle.std.proofs.lemmas.Bool.Decides.{same_from_decides}
 use Rattle.bits.specs.Halves.{lower, upper, half_of, halves}
 use Rattle.bits.specs.declared.halves.Halves.{Halves}
 use Rattle.bits.proofs.Every.{both}
@@ -30,6 +35,15 @@ pub sets_ext : (n : ℕ) {a b c d : ℕ → ℕ} → ((i : ℕ) → i < n → a 
 unfolding same_sets
 sets_ext zero e f = refl
 sets_ext (suc n) e f = rw (sets_ext n (λ i l. e i (omega arith)) (λ i l. f i (omega arith)), e n (omega arith), f n (omega arith))
+
+-- what a comparison of two lists of one length says
+pub lists_same : (xs ys : List ℕ) → length ys ≡ length xs → pointwise eqb xs ys ≡ same_sets (length xs) (λ j. get_or ys j 0) (λ j. get_or xs j 0)
+lists_same xs ys e =
+    let n = length xs in
+    same_from_decides (pointwise eqb xs ys) (same_sets n (λ j. get_or ys j 0) (λ j. get_or xs j 0)) (bytes_decides xs ys) (
+      λ s. ext_get_or 0 xs ys (sym e) (λ j l. sym (sets_of n (λ j. get_or ys j 0) (λ j. get_or xs j 0) s j l)),
+      λ q. sets_to n (λ j. get_or ys j 0) (λ j. get_or xs j 0) (λ j l. ap (λ (x : List ℕ). get_or x j 0) (sym q)),
+    )
 
 -- sets of halves are the same where both halves are
 pub same_by_halves : (n : ℕ) (a b : ℕ → Halves)

@@ -14,8 +14,7 @@ pub fn encode(version: u64, lows: &[u64], highs: &[u64], out: &mut [u8])
     ensures { out.new ≡ note_bytes version (λ j. halves (get_or lows.now j 0) (get_or highs.now j 0)) (length lows.now) }
 {
     let f = format_of(version);
-    let mut i = 0;
-    while i < lows.len() {
+    for i in 0..lows.len() {
         let start = f.annotation * i;
         let middle = start + 8;
         store64(lows[i], &mut out[start..middle]);
@@ -23,6 +22,5 @@ pub fn encode(version: u64, lows: &[u64], highs: &[u64], out: &mut [u8])
             let end = middle + 8;
             store64(highs[i], &mut out[middle..end]);
         }
-        i += 1;
     }
 }

@@ -8,7 +8,6 @@ ghost use Rattle.sweeps.specs.Served.Plan.{step, Planned, Sized};
 
 use bits::halves::Halves;
 use flow::{branch_target, fills};
-
 use record::instruction::Instruction;
 use safety::verdict::{Verdict, refused};
 use verifier::program::reading_at;
@@ -28,30 +27,18 @@ pub(crate) fn step_of(version: u64, x: Instruction, i: usize, n: usize) -> Step
     requires { i < n }
     ensures { result ≡ step version x i n }
 {
-    let kills = x.kills();
-    let filled = fills(version, x);
-    if x.ends() {
-        return Step {
-            kills,
-            fills: filled,
-            falls: n,
-            jumps: n,
-        };
-    }
-    if x.branches() {
-        let jumps = branch_target(i, x.offset, n);
-        return Step {
-            kills,
-            fills: filled,
-            falls: i + 1,
-            jumps,
-        };
-    }
+    let (falls, jumps) = if x.ends() {
+        (n, n)
+    } else if x.branches() {
+        (i + 1, branch_target(i, x.offset, n))
+    } else {
+        (i + 1, n)
+    };
     Step {
-        kills,
-        fills: filled,
-        falls: i + 1,
-        jumps: n,
+        kills: x.kills(),
+        fills: fills(version, x),
+        falls,
+        jumps,
     }
 }
 
@@ -70,23 +57,17 @@ pub fn make_plan(
     ensures outcome { verdict_outcome result ≡ first (judge_word words.now) n }
     ensures plan { verdict_outcome result ≡ passes → Planned (program_in version words.now [] n (both 0)) lower kills.new lows.new falls.new jumps.new n × Planned (program_in version words.now [] n (both 0)) upper kills.new highs.new falls.new jumps.new n }
 {
-    let mut i = 0;
-    while i < n {
-        let r = reading_at(words, n, i);
-        match r {
-            Ok(x) => {
-                let s = step_of(version, x, i, n);
-                kills[i] = s.kills;
-                lows[i] = s.fills.low;
-                highs[i] = s.fills.high;
-                falls[i] = s.falls;
-                jumps[i] = s.jumps;
-            }
-            Err(f) => {
-                return refused(f.number, f.place, i);
-            }
-        }
-        i += 1;
+    for i in 0..n {
+        let x = match reading_at(words, n, i) {
+            Ok(x) => x,
+            Err(f) => return refused(f.number, f.place, i),
+        };
+        let s = step_of(version, x, i, n);
+        kills[i] = s.kills;
+        lows[i] = s.fills.low;
+        highs[i] = s.fills.high;
+        falls[i] = s.falls;
+        jumps[i] = s.jumps;
     }
     Ok(())
 }

@@ -16,13 +16,13 @@ use Rattle.sweeps.proofs.encode.encode.Goals.{then-f-ne0, else-f-ne0}
 
 pub loop-i-init : goal.loop-i-init
 unfolding note_bytes
-loop-i-init c = (search rules, refl, refl)
+loop-i-init c = (refl, refl)
 
 pub slice_bounds-store64-end : goal.slice_bounds-store64-end
-slice_bounds-store64-end c = omega (arith, note_inside _ c.format_of-f.ensures c.requires.1 c.loop-i-test.true, c.loop-i.invariant.1)
+slice_bounds-store64-end c = omega (arith, note_inside _ c.format_of-f.ensures c.requires.1 c.loop-i-test.true, c.loop-i.invariant.0)
 
 pub slice_bounds-store64-end-then-f-ne0 : goal.slice_bounds-store64-end-then-f-ne0
-slice_bounds-store64-end-then-f-ne0 c = omega (arith, room_for_two _ c.format_of-f.ensures c.if-f-ne0.true c.requires.1 c.loop-i-test.true, c.loop-i.invariant.1)
+slice_bounds-store64-end-then-f-ne0 c = omega (arith, room_for_two _ c.format_of-f.ensures c.if-f-ne0.true c.requires.1 c.loop-i-test.true, c.loop-i.invariant.0)
 
 pub loop-i-preserved : goal.loop-i-preserved
 loop-i-preserved c =
@@ -33,8 +33,7 @@ loop-i-preserved c =
     let start = c.format_of-f.result.annotation * l.i in
     let at : start ≡ annotation_length a.version * l.i = ap (λ (f : Format). f.annotation * l.i) f in
     let low = c.store64.ensures in
-    let b = low_stored a.version g l.i l.out a.out.now low l.invariant.2 at (eight start) in (
-      search rules,
+    let b = low_stored a.version g l.i l.out a.out.now low l.invariant.1 at (eight start) in (
       search rules,
       elim c.if-f-ne0.branch [
         | then-f-ne0 w ↦ rw w.out-is (high_stored a.version g l.i _ a.out.now low (λ z. w.if-f-ne0.true (high a.version f ∙ z)) b w.store64-then-f-ne0.ensures (ap (λ (n : ℕ). n + 8) at) (eight (start + 8)))
@@ -53,5 +52,5 @@ returns c =
     let a = c.args in
     let l = c.loop-i in
     let g : ℕ → Halves = λ j. halves (get_or a.lows.now j 0) (get_or a.highs.now j 0) in
-    let e : l.i ≡ length a.lows.now = omega arith in
-    filled _ l.out a.out.now l.invariant.2 (room a.version g e c.requires.1) ∙ ap (note_bytes a.version g) e
+    let e : l.i ≡ length a.lows.now = search rules in
+    filled _ l.out a.out.now l.invariant.1 (room a.version g e c.requires.1) ∙ ap (note_bytes a.version g) e

@@ -1,14 +1,7 @@
-use Rattle.sweeps.proofs.PlanLaws.{yet, took, differs, agrees}
-use borrow.Author.Rules.{rules}
-use mathlib.Core.Path.{refl}
-use native.Mathlib.Omega.{arith}
-use Rattle.sweeps.specs.Served.Tracks.{same_sets}
+use mathlib.Core.Bool.{not}
+use mathlib.Core.Path.{ap, ◌∙◌}
+use Rattle.sweeps.proofs.SameLaws.{lists_same}
 use Rattle.sweeps.proofs.sweeps.take_over.Goals as goal
-use Rattle.std.proofs.lemmas.Grind.{common_steps}
 
-pub loop-i-init : goal.loop-i-init
-unfolding same_sets
-loop-i-init c = (search rules, refl, refl, refl)
-
-pub loop-i-preserved : goal.loop-i-preserved
-loop-i-preserved c = grind (arith, common_steps, yet, took, differs, agrees)
+pub returns-clause-changed : goal.returns-clause-changed
+returns-clause-changed c = let a = c.args in c.ne-changed.ensures ∙ ap not (lists_same a.notes.now a.new.now c.requires)
