@@ -1,4 +1,3 @@
-use mathlib.Core.Path.{sym}
 use Rattle.bits.proofs.OutcomeLaws.{left_by}
 use Rattle.container.proofs.OpeningLaws.{words_contents}
 use Rattle.replay.specs.Replay.{asked}
