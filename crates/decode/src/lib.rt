@@ -7,28 +7,23 @@ ghost use Rattle.operations.specs.Served.Operations.{operation_of};
 ghost use Rattle.decode.specs.Served.Decoded.{AllRead, Decoded};
 
 use container::layout::MOST_INSTRUCTIONS;
+use operations::op::Op;
 use operations::operand::Operand;
 use operations::{Operation, operation_of};
-
 use record::instruction::Modifiers;
 use verifier::program::reading_at;
 
 // An operation that does nothing, for the places past the last instruction.
 fn nothing() -> Operation {
-    let none = Operand {
-        register: 64,
-        number: 0,
-    };
-    let modifiers = Modifiers::of([0; 14]);
     Operation {
-        fault: 0,
-        row: 0,
-        register: 64,
+        fault: None,
+        op: Op::Nop,
+        register: None,
         ends: true,
-        modifiers,
-        a: none,
-        b: none,
-        c: none,
+        modifiers: Modifiers::of([0; 14]),
+        a: Operand::Fixed(0),
+        b: Operand::Fixed(0),
+        c: Operand::Fixed(0),
         jump: 0,
     }
 }
@@ -50,13 +45,9 @@ pub fn decode<'a>(words: &'a [u8], uniforms: &'a [u32], n: usize) -> [Operation;
     requires { Worded words.now n × AllRead words.now n }
     ensures { Decoded words.now uniforms.now n n result }
 {
-    let none = nothing();
-    let mut program = [none; MOST_INSTRUCTIONS];
-    let mut i = 0;
-    while i < n {
-        let o = operation_at(words, uniforms, n, i);
-        program[i] = o;
-        i += 1;
+    let mut program = [nothing(); MOST_INSTRUCTIONS];
+    for i in 0..n {
+        program[i] = operation_at(words, uniforms, n, i);
     }
     program
 }

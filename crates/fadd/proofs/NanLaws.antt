@@ -1,11 +1,10 @@
 -- Which numbers and which patterns are not-a-numbers. Assumes nothing.
 use mathlib.Core.Path.{◌≡◌, refl, sym, ◌∙◌, subst}
-use mathlib.Core.Bool.{Bool, true, false, not, true≢false, false≢true}
+use mathlib.Core.Bool.{Bool, true, not, false≢true}
 use Prim.Native.Nat.{ℕ, ◌%◌, ◌<◌, ◌≤◌}
 use lib.Dec.{T}
-use lib.Ieee.{Float, nan, inf, fin, binary32, is_nan, nan_bits, of_bits, to_bits, ne}
+use lib.Ieee.{Float, nan, inf, fin, binary32, is_nan, nan_bits, of_bits, to_bits}
 use lib.Ieee.Bits.{nan_bits_is, nan_bits_above}
-use lib.Ieee.Compare.{differs_from_itself, nan_differs}
 use Rattle.fadd.specs.Single.{recorded}
 use borrow.Author.Tests.{lt-ltb, le-ltb}
 
@@ -14,16 +13,6 @@ unfolding is_nan
 nan_only nan h = refl
 nan_only (inf s) h = absurd (false≢true h)
 nan_only (fin s m e) h = absurd (false≢true h)
-
--- `x != x`
-pub number : (x : Float) → ne x x ≡ false → T (not (is_nan x))
-unfolding is_nan
-number nan h = absurd (true≢false (sym nan_differs ∙ h))
-number (inf s) h = tt
-number (fin s m e) h = tt
-
-pub not_number : (x : Float) → ne x x ≡ true → x ≡ nan
-not_number x h = differs_from_itself x (subst T (sym h) tt)
 
 -- with its sign bit off, a not-a-number's pattern is above infinity's, 7F800000
 pub nan_above : (b : ℕ) → 2139095040 < b % 2147483648 → of_bits binary32 b ≡ nan

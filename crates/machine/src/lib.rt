@@ -2,46 +2,46 @@
 #![tactic(auto)]
 
 ghost use Rattle.std.specs.Prelude.{◌≡◌, ◌<◌};
-ghost use Rattle.machine.specs.Steps.{row_result, takes_branch};
-ghost use Rattle.machine.specs.Served.InPlace.{effect, effect_on, stored};
+ghost use Rattle.machine.specs.Served.InPlace.{op_result, op_jumps, effect, effect_on, stored};
 
 use operations::Operation;
+use operations::op::Op;
 use operations::operand::operand_worth;
 use record::instruction::Modifiers;
 
 // What an operation does: the number that it writes, and the index of the next instruction.
-#[derive(Clone, Copy)]
+#[derive(Clone, Copy, Debug, PartialEq, Eq)]
 pub struct Effect {
     pub number: u32,
     pub next: usize,
 }
 
-const BRANCHZ: u8 = 1;
-
-// What a row writes, from what its sources are worth.
-fn result(row: u8, m: Modifiers, a: u32, b: u32, c: u32) -> u32
-    ensures { result ≡ row_result row m a b c }
+// What is written, from what the sources are worth; 0 where nothing is.
+#[tactic(auto, unfolding(crate::specs::Served::InPlace::op_result))]
+fn result(op: Op, m: Modifiers, a: u32, b: u32, c: u32) -> u32
+    ensures { result ≡ op_result op m a b c }
 {
-    match row {
-        30 => a,
-        31 => ops::clz(a),
-        37 => ops::popcount(a),
-        38 => ops::bitrev(a),
-        39 => ops::complement(a),
-        53 => fadd::fadd(m.m38 == 1, m.m39 == 1, m.m36 == 1, m.m37 == 1, m.m32, a, b),
-        55 => ops::mux(m.m32, a, b, c),
-        _ => 0,
+    match op {
+        Op::Nop | Op::Branchz => 0,
+        Op::Mov => a,
+        Op::Clz => ops::clz(a),
+        Op::Popcount => ops::popcount(a),
+        Op::Bitrev => ops::bitrev(a),
+        Op::Not => ops::complement(a),
+        Op::Fadd => fadd::fadd(m.m38 == 1, m.m39 == 1, m.m36 == 1, m.m37 == 1, m.m32, a, b),
+        Op::Mux => ops::mux(m.m32, a, b, c),
     }
 }
 
-// Whether a row jumps.
-fn takes_branch(row: u8, m: Modifiers, a: u32) -> bool
-    ensures { result ≡ takes_branch row m a }
+// Whether it jumps.
+#[tactic(auto, unfolding(crate::specs::Served::InPlace::op_jumps))]
+fn takes_branch(op: Op, m: Modifiers, a: u32) -> bool
+    ensures { result ≡ op_jumps op m a }
 {
-    if row == BRANCHZ {
-        return ops::jumps(m.m36 == 1, a);
+    match op {
+        Op::Branchz => ops::jumps(m.m36 == 1, a),
+        _ => false,
     }
-    false
 }
 
 // The step by value, from what the operands are worth.
@@ -50,8 +50,8 @@ fn stepped(o: Operation, i: usize, a: u32, b: u32, c: u32) -> Effect
     ensures { result ≡ effect o i a b c }
 {
     let m = o.modifiers;
-    let number = result(o.row, m, a, b, c);
-    if takes_branch(o.row, m, a) {
+    let number = result(o.op, m, a, b, c);
+    if takes_branch(o.op, m, a) {
         return Effect {
             number,
             next: o.jump,
@@ -73,9 +73,10 @@ pub fn step(registers: &mut [u32; 64], o: Operation, i: usize) -> usize
     let b = operand_worth(registers, o.b);
     let c = operand_worth(registers, o.c);
     let e = stepped(o, i, a, b, c);
-    let d = o.register as usize;
-    if d < 64 {
-        registers[d] = e.number;
+    if let Some(d) = o.register {
+        if d < 64 {
+            registers[d as usize] = e.number;
+        }
     }
     e.next
 }

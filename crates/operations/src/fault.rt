@@ -1,19 +1,13 @@
 // Which instructions can be replayed.
 ghost use Rattle.std.specs.Prelude.{◌≡◌};
 ghost use Rattle.rows.specs.Sources.{meaning};
-ghost use Rattle.operations.specs.Replayable.{runs, writes_whole, takes_whole, ordinary, supplied, all_three, replayable, fault};
+ghost use Rattle.operations.specs.Replayable.{writes_whole, ordinary, supplied, all_three, replayable};
+ghost use Rattle.operations.specs.Served.Operations.{op_whole, fault_reason};
 
-use record::instruction::Instruction;
+use crate::op::Op;
+use reasons::Reason;
+use record::instruction::{Instruction, Modifiers};
 use record::registers::has_destination;
-
-// The numbers of the refusals, by reason.
-const NOT_REPLAYABLE: u8 = 30;
-
-const UNIFORM_MISSING: u8 = 31;
-
-const BRANCHZ: u8 = 1;
-
-const FADD: u8 = 53;
 
 const FULL: u8 = 3;
 
@@ -24,77 +18,45 @@ const CONSTANTS: u8 = 192;
 
 const SPECIALS: u8 = 224;
 
-// Whether a row is one of the nine.
-fn runs(row: u8) -> bool
-    ensures { result ≡ runs row }
-{
-    match row {
-        0 => true,
-        1 => true,
-        30 => true,
-        31 => true,
-        37 => true,
-        38 => true,
-        39 => true,
-        53 => true,
-        55 => true,
-        _ => false,
-    }
-}
-
 // Whether what is written, if anything is, is a whole register.
+#[tactic(auto, unfolding(crate::specs::Replayable::writes_whole))]
 fn writes_whole(x: Instruction) -> bool
     ensures { result ≡ writes_whole x }
 {
-    if !has_destination(x.row) {
-        return true;
-    }
-    x.half_mask == FULL
+    !has_destination(x.row) || x.half_mask == FULL
 }
 
-// Whether combine and widen, where the row has them, are none.
-fn takes_whole(x: Instruction) -> bool
-    ensures { result ≡ takes_whole x }
+// Whether combine and widen, where there are such modifiers, are none.
+#[tactic(auto, unfolding(crate::specs::Served::Operations::op_whole))]
+fn takes_whole(op: Op, m: Modifiers) -> bool
+    ensures { result ≡ op_whole op m }
 {
-    let m = x.modifiers;
-    if x.row == BRANCHZ {
-        return m.m37 == 0;
+    match op {
+        Op::Branchz => m.m37 == 0,
+        Op::Fadd => m.m28 == 0 && m.m26 == 0,
+        Op::Nop | Op::Mov | Op::Clz | Op::Popcount | Op::Bitrev | Op::Not | Op::Mux => true,
     }
-    if x.row != FADD {
-        return true;
-    }
-    if m.m28 != 0 {
-        return false;
-    }
-    m.m26 == 0
 }
 
 // Whether of n uniforms there is the one that a source byte names on a page, if it names one.
+#[tactic(auto, using(crate::proofs::ByteLaws::supplied_below, crate::proofs::ByteLaws::supplied_above, crate::proofs::ByteLaws::supplied_between))]
 fn supplied(n: usize, page: u8, b: u8) -> bool
     ensures { result ≡ supplied n (meaning page b) }
 {
-    if b < UNIFORMS {
+    if b < UNIFORMS || CONSTANTS <= b {
         return true;
     }
-    if CONSTANTS <= b {
-        return true;
-    }
-    let u = (b - UNIFORMS) as usize + 64 * page as usize;
+    let u = usize::from(b - UNIFORMS) + 64 * usize::from(page);
     u < n
 }
 
 // Whether no source is a special constant.
+#[tactic(auto, using(crate::proofs::ByteLaws::ordinary_byte))]
 fn all_ordinary(x: Instruction) -> bool
     ensures { result ≡ all_three ordinary x }
 {
     let s = x.sources;
-    if SPECIALS <= s.s0 {
-        return false;
-    }
-    if SPECIALS <= s.s1 {
-        return false;
-    }
-    s.s2 < SPECIALS
+    s.s0 < SPECIALS && s.s1 < SPECIALS && s.s2 < SPECIALS
 }
 
 // Whether no source names a uniform past n.
@@ -102,42 +64,32 @@ fn all_supplied(n: usize, x: Instruction) -> bool
     ensures { result ≡ all_three (supplied n) x }
 {
     let s = x.sources;
-    if !supplied(n, x.page, s.s0) {
-        return false;
-    }
-    if !supplied(n, x.page, s.s1) {
-        return false;
-    }
-    supplied(n, x.page, s.s2)
+    supplied(n, x.page, s.s0) && supplied(n, x.page, s.s1) && supplied(n, x.page, s.s2)
 }
 
 // Whether the machine can run an instruction.
+#[tactic(auto, using(crate::proofs::OpLaws::runs_some, crate::proofs::OpLaws::runs_none, crate::proofs::OpLaws::whole_of), unfolding(crate::specs::Replayable::replayable))]
 fn replayable(x: Instruction) -> bool
     ensures { result ≡ replayable x }
 {
-    if !runs(x.row) {
-        return false;
+    match Op::of_row(x.row) {
+        Some(op) => writes_whole(x) && takes_whole(op, x.modifiers) && all_ordinary(x),
+        None => false,
     }
-    if !writes_whole(x) {
-        return false;
-    }
-    if !takes_whole(x) {
-        return false;
-    }
-    all_ordinary(x)
 }
 
-// The number with which an instruction is refused where there are n uniforms, or 0.
-pub(crate) fn fault_of(x: Instruction, n: usize) -> u8
-    ensures { result ≡ fault n x }
+// Why an instruction is refused where there are n uniforms.
+#[tactic(auto, unfolding(crate::specs::Served::Operations::fault_reason))]
+pub(crate) fn fault_of(x: Instruction, n: usize) -> Option<Reason>
+    ensures { result ≡ fault_reason n x }
 {
     let runs = replayable(x);
     let has = all_supplied(n, x);
     if !runs {
-        return NOT_REPLAYABLE;
+        return Some(Reason::NotReplayable);
     }
     if !has {
-        return UNIFORM_MISSING;
+        return Some(Reason::UniformMissing);
     }
-    0
+    None
 }

@@ -16,14 +16,14 @@ pub fn complement(x: u32) -> u32
 pub fn clz(x: u32) -> u32
     ensures { result ≡ clz x }
 {
-    u32::leading_zeros(x)
+    x.leading_zeros()
 }
 
 // POPCOUNT.i32
 pub fn popcount(x: u32) -> u32
     ensures { result ≡ popcount x }
 {
-    u32::count_ones(x)
+    x.count_ones()
 }
 
 // In each run of 2 s bits of x the lower s and the upper s change places; m has a 1 for each of the lower ones.
@@ -34,7 +34,8 @@ fn exchanged(s: u32, m: u32, x: u32) -> u32
     ((x >> s) & m) | ((x & m) << s)
 }
 
-// BITREV.i32: the halves change places, then the halves of each, and so on down to single bits.
+// BITREV.i32: the halves change places, then the halves of each, and so on down to single bits. These are five steps; std's `reverse_bits` goes
+// bit by bit, in 32.
 pub fn bitrev(x: u32) -> u32
     ensures { result ≡ bitrev x }
 {
@@ -49,16 +50,15 @@ pub fn bitrev(x: u32) -> u32
 fn passes(mode: u8, m: u32) -> bool
     ensures { result ≡ passes mode m }
 {
-    if mode == 0 {
-        m >= 0x8000_0000
-    } else if mode == 1 {
-        m == 0
-    } else {
-        m % 0x8000_0000 == 0
+    match mode {
+        0 => m >= 0x8000_0000,
+        1 => m == 0,
+        _ => m % 0x8000_0000 == 0,
     }
 }
 
 // MUX.i32
+#[tactic(auto, unfolding(crate::specs::Rows::mux))]
 pub fn mux(mode: u8, a: u32, b: u32, m: u32) -> u32
     ensures { result ≡ mux mode a b m }
 {
@@ -72,6 +72,7 @@ pub fn mux(mode: u8, a: u32, b: u32, m: u32) -> u32
 }
 
 // Whether BRANCHZ jumps on a source.
+#[tactic(auto, unfolding(crate::specs::Rows::jumps))]
 pub fn jumps(eq: bool, s: u32) -> bool
     ensures { result ≡ jumps eq s }
 {

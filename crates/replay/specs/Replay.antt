@@ -1,6 +1,6 @@
 -- What a replay answers and leaves (02, Item 8): its refusals in their order, all before step one, and the run.
-use Rattle.std.specs.Prelude.{List, ℕ, ◌%◌, eqb, length}
-use Rattle.bits.specs.Outcomes.{Outcome, gives, refuses, require, ◌then◌, first}
+use Rattle.std.specs.Prelude.{List, ℕ, ◌%◌, eqb, length, Result}
+use Rattle.bits.specs.Outcomes.{Outcome, gives, refuses, require, ◌then◌, first, outcome}
 use Rattle.record.specs.declared.instruction.Instruction.{Instruction}
 use Rattle.container.specs.Container.{count_of}
 use Rattle.safety.specs.declared.verdict.Finding.{Finding}
@@ -9,8 +9,6 @@ use Rattle.safety.specs.Verdict.{Judgement, plain, verdict_of}
 use Rattle.operations.specs.Replayable.{fault}
 use Rattle.run.specs.declared.Stop.{Stop}
 use Rattle.run.specs.Run.{at, run, steps_run}
-use Rattle.replay.specs.declared.Replayed.{Replayed}
-use Rattle.replay.specs.declared.Replayed.TheVariants.{Ran, Refused}
 
 -- what a replay is asked: the bytes of a container, the registers, the uniforms, the recorded trace and the step limit
 pub record Asked : Type 0 where
@@ -55,6 +53,5 @@ unfolding replay_outcome
 replay_registers a = left_by a (replay_outcome a)
 
 -- the outcome that each answer of the code stands for
-abbrev pub replayed_outcome : Replayed → Outcome Finding Stop
-replayed_outcome (Ran s) = gives s
-replayed_outcome (Refused f) = refuses f
+abbrev pub replayed_outcome : Result Stop Finding → Outcome Finding Stop
+replayed_outcome = outcome

@@ -12,20 +12,14 @@ use container::layout::{MOST_INSTRUCTIONS, WORD_LENGTH};
 use container::parts::words;
 use decode::decode;
 use operations::Operation;
+use reasons::Reason;
 use run::{Stop, run};
 use safety::verdict::{Finding, Verdict, plain, refused};
 use trace::REGISTERS;
 use verifier::verify;
 
 // What a replay answers: what stopped the run, or why there was none.
-#[derive(Clone, Copy)]
-pub enum Replayed {
-    Ran(Stop),
-    Refused(Finding),
-}
-
-// The number of the refusal where the trace has no whole number of steps.
-const TRACE_LENGTH: u8 = 32;
+pub type Replayed = Result<Stop, Finding>;
 
 // The refusal of the lowest of n instructions that has one.
 fn first_fault<'a>(
@@ -37,13 +31,10 @@ fn first_fault<'a>(
     requires { Ready bytes.now uniforms.now program × (n ≡ count_of bytes.now) }
     ensures { verdict_outcome result ≡ judge_faults bytes.now uniforms.now }
 {
-    let mut i = 0;
-    while i < n {
-        let o = program[i];
-        if o.fault != 0 {
-            return refused(o.fault, 0, i);
+    for i in 0..n {
+        if let Some(reason) = program[i].fault {
+            return refused(reason.number(), 0, i);
         }
-        i += 1;
     }
     Ok(())
 }
@@ -63,11 +54,8 @@ fn replay_accepted<'a>(
     let w = words(bytes);
     let n = w.len() / WORD_LENGTH;
     let program = decode(w, uniforms, n);
-    let v = first_fault(bytes, uniforms, program, n);
-    match v {
-        Ok(()) => Replayed::Ran(run(bytes, registers, program, uniforms, trace, limit)),
-        Err(f) => Replayed::Refused(f),
-    }
+    first_fault(bytes, uniforms, program, n)?;
+    Ok(run(bytes, registers, program, uniforms, trace, limit))
 }
 
 // Replays a container on the registers, which are changed in place, with some uniforms, at most `limit` steps, and compares the registers after
@@ -82,16 +70,9 @@ pub fn replay<'a>(
     ensures answer { replayed_outcome result ≡ replay_outcome (asked bytes.now registers.old uniforms.now trace.now limit) }
     ensures left { registers.new ≡ replay_registers (asked bytes.now registers.old uniforms.now trace.now limit) }
 {
-    let v = verify(bytes);
-    match v {
-        Ok(()) => {
-            if trace.len() % REGISTERS != 0 {
-                return Replayed::Refused(plain(TRACE_LENGTH, 0, 0));
-            }
-            return replay_accepted(bytes, registers, uniforms, trace, limit);
-        }
-        Err(f) => {
-            return Replayed::Refused(f);
-        }
+    verify(bytes)?;
+    if trace.len() % REGISTERS != 0 {
+        return Err(plain(Reason::TraceLength as u8, 0, 0));
     }
+    replay_accepted(bytes, registers, uniforms, trace, limit)
 }

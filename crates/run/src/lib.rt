@@ -13,7 +13,7 @@ use trace::{REGISTERS, difference};
 
 // What stops a run: after a step, counted from 0, the lowest register that differs from the trace; an instruction's `end`, or the limit,
 // after so many steps.
-#[derive(Clone, Copy)]
+#[derive(Clone, Copy, Debug, PartialEq, Eq)]
 pub enum Stop {
     Differs(u32, u32),
     Ended(u32),
@@ -34,19 +34,16 @@ pub fn run<'a>(
     ensures left { registers.new ≡ (at (program_of bytes.now) uniforms.now registers.old (steps_run result)).registers }
 {
     let mut i = 0;
-    let mut k = 0;
-    while k < limit {
+    for k in 0..limit {
         let o = program[i];
         let next = step(registers, o, i);
-        let r = difference(registers, trace, k);
-        if r < REGISTERS {
+        if let Some(r) = difference(registers, trace, k) {
             return Stop::Differs(k, r as u32);
         }
         if o.ends {
             return Stop::Ended(k + 1);
         }
         i = next;
-        k += 1;
     }
     Stop::Limit(limit)
 }

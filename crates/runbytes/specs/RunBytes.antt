@@ -6,15 +6,13 @@
 --       12   how many numbers the trace has, at most 262144, which is 4096 steps
 --       16   the 64 start registers
 --      272   the uniforms, after them the trace, and after that the container, to the end
-use Rattle.std.specs.Prelude.{◌&&◌, List, [], ◌∷◌, ◌++◌, ℕ, zero, suc, ◌+◌, ◌*◌, eqb, leb, length, drop}
-use Rattle.bits.specs.Outcomes.{Outcome, gives, refuses, require, ◌then◌}
+use Rattle.std.specs.Prelude.{◌&&◌, List, [], ◌∷◌, ◌++◌, ℕ, zero, suc, ◌+◌, ◌*◌, eqb, leb, length, drop, Result}
+use Rattle.bits.specs.Outcomes.{Outcome, gives, require, ◌then◌, outcome}
 use Rattle.container.specs.Container.{number}
 use Rattle.replay.specs.Replay.{Asked, asked}
 use Rattle.runbytes.specs.declared.Front.{Front}
 use Rattle.runbytes.specs.declared.Fault.{Fault}
 use Rattle.runbytes.specs.declared.Fault.TheVariants.{Short, Kind, Counts, Cut}
-use Rattle.runbytes.specs.declared.Parted.{Parted}
-use Rattle.runbytes.specs.declared.Parted.TheVariants.{Whole, Wrong}
 
 -- where the start registers stand, and where the uniforms do
 abbrev pub registers_start : ℕ
@@ -77,6 +75,5 @@ split_outcome s =
     then gives (front_in s)
 
 -- the outcome that each answer of the code stands for
-abbrev pub parted_outcome : Parted → Outcome Fault Front
-parted_outcome (Whole f) = gives f
-parted_outcome (Wrong e) = refuses e
+abbrev pub parted_outcome : Result Front Fault → Outcome Fault Front
+parted_outcome = outcome

@@ -5,7 +5,6 @@ ghost use Rattle.std.specs.Prelude.{◌≡◌, ◌+◌, ◌*◌, ◌≤◌, leng
 ghost use Rattle.runbytes.specs.RunBytes.{uniforms_start, number_at, numbers, registers_in, uniforms_in, trace_in, container_in, split_outcome, parted_outcome};
 ghost use Rattle.runbytes.specs.Served.Whole.{Whole};
 
-use bits::bytes::wide;
 use trace::REGISTERS;
 
 // Where the start registers stand, and where the uniforms do.
@@ -29,7 +28,7 @@ const RECORDED: usize = 12;
 
 // What stands before the start registers: whether the registers after each step are wanted, the limit, how many uniforms there are, and
 // how many numbers the trace has.
-#[derive(Clone, Copy)]
+#[derive(Clone, Copy, Debug, PartialEq, Eq)]
 pub struct Front {
     pub rows: bool,
     pub limit: u32,
@@ -39,7 +38,7 @@ pub struct Front {
 
 // What can be wrong: no room for the start registers, another first number than 0 and 1, a count that is too large, no room for what is
 // counted.
-#[derive(Clone, Copy)]
+#[derive(Clone, Copy, Debug, PartialEq, Eq)]
 pub enum Fault {
     Short,
     Kind,
@@ -47,20 +46,15 @@ pub enum Fault {
     Cut,
 }
 
-#[derive(Clone, Copy)]
-pub enum Parted {
-    Whole(Front),
-    Wrong(Fault),
-}
+// What stands in front, where all parts are there.
+pub type Parted = Result<Front, Fault>;
 
 // The number that four bytes give, the lowest first.
 pub fn number_at(bytes: &[u8], start: usize) -> u32
     requires { start + 4 ≤ length bytes.now }
     ensures { result ≡ number_at bytes.now start }
 {
-    let low = wide(bytes[start]) + 256 * wide(bytes[start + 1]);
-    let high = wide(bytes[start + 2]) + 256 * wide(bytes[start + 3]);
-    (low + 65536 * high) as u32
+    u32::from_le_bytes([bytes[start], bytes[start + 1], bytes[start + 2], bytes[start + 3]])
 }
 
 // Fills a list with the numbers that stand one after the other from a byte on.
@@ -68,10 +62,8 @@ fn load(bytes: &[u8], start: usize, out: &mut [u32])
     requires { start + 4 * length out.old ≤ length bytes.now }
     ensures { out.new ≡ numbers bytes.now start (length out.old) }
 {
-    let mut i = 0;
-    while i < out.len() {
+    for i in 0..out.len() {
         out[i] = number_at(bytes, start + 4 * i);
-        i += 1;
     }
 }
 
@@ -106,24 +98,21 @@ pub fn split(bytes: &[u8]) -> Parted
     ensures { parted_outcome result ≡ split_outcome bytes.now }
 {
     if bytes.len() < UNIFORMS_START {
-        return Parted::Wrong(Fault::Short);
+        return Err(Fault::Short);
     }
     let rows = number_at(bytes, ROWS);
     let uniforms = number_at(bytes, UNIFORMS) as usize;
     let recorded = number_at(bytes, RECORDED) as usize;
     if 1 < rows {
-        return Parted::Wrong(Fault::Kind);
+        return Err(Fault::Kind);
     }
-    if MOST_UNIFORMS < uniforms {
-        return Parted::Wrong(Fault::Counts);
-    }
-    if MOST_RECORDED < recorded {
-        return Parted::Wrong(Fault::Counts);
+    if MOST_UNIFORMS < uniforms || MOST_RECORDED < recorded {
+        return Err(Fault::Counts);
     }
     if bytes.len() < UNIFORMS_START + 4 * uniforms + 4 * recorded {
-        return Parted::Wrong(Fault::Cut);
+        return Err(Fault::Cut);
     }
-    Parted::Whole(Front {
+    Ok(Front {
         rows: rows == 1,
         limit: number_at(bytes, LIMIT),
         uniforms,

@@ -1,14 +1,17 @@
 -- Looking for the lowest number of which a test holds, one by one. Assumes nothing.
-use mathlib.Core.Path.{◌≡◌, refl, ap, ◌∙◌}
+use mathlib.Core.Path.{◌≡◌, refl, sym, ap, ◌∙◌}
 use mathlib.Core.Bool.{Bool, true, false}
 use mathlib.Core.Logic.{◌⊎◌, ⊎_elim}
 use Prim.Native.Nat.{ℕ, suc, ◌+◌, ◌-◌, ◌≤◌, ◌<◌}
 use native.Mathlib.Omega.{arith}
 use native.Mathlib.Nat.{eq-or-lt_of_le}
 use native.Mathlib.Numerals.{add-one}
-use lib.Dec.{eqb}
+use Rattle.std.specs.Prelude.{Option, None, Some}
 use Rattle.bits.specs.Fields.{choose}
+use lib.Dec.{ltb}
+use borrow.Author.Tests.{ltb-true, ltb-false}
 use Rattle.bits.specs.Sets.{lowest_from}
+use Rattle.trace.specs.Trace.{below_64}
 
 module _ (test : ℕ → Bool) where
   pub lowest_hit : (i n : ℕ) → i < n → test i ≡ true → lowest_from test (n - i) i ≡ i
@@ -39,10 +42,17 @@ none_more test n r d h e z q l = ⊎_elim (λ s. rw s (e (omega arith))) (λ m. 
     split : (q : ℕ) → q < r + 1 → (q ≡ r) ⊎ (q < r)
     split q l = eq-or-lt_of_le (omega arith)
 
--- what two numbers count for: at most 1, and 0 only where they are equal
-pub counted : (a b : ℕ) {d : ℕ} → d ≡ choose (eqb a b) 0 1 → (d ≤ 1) × (d ≡ 0 → eqb a b ≡ true)
-counted a b e = go (eqb a b) e
+-- the register of a number, if it is one
+pub register_is : (d : ℕ) {r : ℕ} {o : Option ℕ} → o ≡ below_64 d → o ≡ Some r → (d ≡ r) × (d < 64)
+register_is d {r} e p = go (ltb d 64) refl (sym e ∙ p)
   where
-    go : (t : Bool) {d : ℕ} → d ≡ choose t 0 1 → (d ≤ 1) × (d ≡ 0 → t ≡ true)
-    go true e = (omega arith, λ z. refl)
-    go false e = (omega arith, λ z. absurd (omega arith))
+    go : (t : Bool) → ltb d 64 ≡ t → choose t (Some d) None ≡ Some r → (d ≡ r) × (d < 64)
+    go true f q = (cc, ltb-true d 64 f)
+    go false f q = absurd (let z : ◌≡◌ {A = ℕ} 0 1 = cc in omega arith)
+
+pub no_register : (d : ℕ) {o : Option ℕ} → o ≡ below_64 d → o ≡ None → 64 ≤ d
+no_register d e p = go (ltb d 64) refl (sym e ∙ p)
+  where
+    go : (t : Bool) → ltb d 64 ≡ t → choose t (Some d) None ≡ None → 64 ≤ d
+    go true f q = absurd (let z : ◌≡◌ {A = ℕ} 0 1 = cc in omega arith)
+    go false f q = ltb-false d 64 f

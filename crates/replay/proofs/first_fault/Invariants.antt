@@ -1,11 +1,7 @@
 use mathlib.Core.Path.{◌≡◌}
-use Prim.Native.Nat.{◌-◌, ◌≤◌}
 use Rattle.bits.specs.Outcomes.{passes, first}
 use Rattle.replay.proofs.FaultLaws.{each_fault}
 use Rattle.replay.proofs.first_fault.Given as goal
 
 abbrev pub invariant-loop-i : goal.invariant-loop-i
-invariant-loop-i l = (l.i ≤ l.n) × (first (each_fault l.bytes l.uniforms) l.i ≡ passes)
-
-abbrev pub decreases-loop-i : goal.decreases-loop-i
-decreases-loop-i l = l.n - l.i
+invariant-loop-i l = first (each_fault l.bytes l.uniforms) l.i ≡ passes

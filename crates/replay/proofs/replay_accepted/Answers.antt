@@ -1,5 +1,4 @@
-use mathlib.Core.Path.{sym, ap, ◌∙◌}
-use Rattle.safety.specs.Verdict.{verdict_outcome}
+use Rattle.bits.proofs.OutcomeLaws.{left_by}
 use Rattle.container.proofs.OpeningLaws.{words_contents}
 use Rattle.replay.specs.Replay.{asked}
 use Rattle.replay.proofs.ReadyLaws.{counted, worded, all_read, ready}
@@ -13,8 +12,8 @@ decode-program-requires c =
     let e = words_contents a.bytes c.words-w.result c.words-w.ensures f.opens in
     (worded a.bytes.now f e, all_read a.bytes.now f e)
 
-pub first_fault-v-requires : goal.first_fault-v-requires
-first_fault-v-requires c =
+pub first_fault-requires : goal.first_fault-requires
+first_fault-requires c =
     let a = c.args in
     let f = c.requires.safe.0 in
     let e = words_contents a.bytes c.words-w.result c.words-w.ensures f.opens in
@@ -26,14 +25,14 @@ run-requires c =
     let f = c.requires.safe.0 in
     ready a.bytes.now f (words_contents a.bytes c.words-w.result c.words-w.ensures f.opens) c.requires.safe.1 c.decode-program.ensures
 
-pub returns-in-Ok : goal.returns-in-Ok
-returns-in-Ok c =
+pub returns-in_err-first_fault : goal.returns-in_err-first_fault
+returns-in_err-first_fault c =
     let a = c.args in
-    let r = ran (asked a.bytes.now a.registers.now a.uniforms.now a.trace.now a.limit) c.requires.accepted c.requires.whole (ap verdict_outcome (sym c.in-Ok.is) ∙ c.first_fault-v.ensures) c.run.ensures.answer c.run.ensures.left in
-    record { answer = r.answer; left = r.registers }
+    let r = by_fault (asked a.bytes.now a.registers.now a.uniforms.now a.trace.now a.limit) c.requires.accepted c.requires.whole c.in_err-first_fault.ensures in
+    record { answer = rw (left_by _ c.from_residual.ensures) r.answer; left = r.registers }
 
-pub returns-in-Err : goal.returns-in-Err
-returns-in-Err c =
+pub returns : goal.returns
+returns c =
     let a = c.args in
-    let r = by_fault (asked a.bytes.now a.registers.now a.uniforms.now a.trace.now a.limit) c.requires.accepted c.requires.whole (ap verdict_outcome (sym c.in-Err.is) ∙ c.first_fault-v.ensures) in
+    let r = ran (asked a.bytes.now a.registers.now a.uniforms.now a.trace.now a.limit) c.requires.accepted c.requires.whole c.in_ok-first_fault.ensures c.run.ensures.answer c.run.ensures.left in
     record { answer = r.answer; left = r.registers }

@@ -1,10 +1,7 @@
-use Prim.Native.Nat.{◌-◌, ◌≤◌}
+use Prim.Native.Nat.{◌≤◌}
 use Rattle.trace.specs.Trace.{unlike}
 use Rattle.trace.proofs.LowestLaws.{NoneBelow}
 use Rattle.trace.proofs.differing.Given as goal
 
 abbrev pub invariant-loop-r : goal.invariant-loop-r
-invariant-loop-r l = (l.r ≤ 64) × (l.n ≤ l.r) × NoneBelow (unlike l.registers l.trace l.k) l.n l.r
-
-abbrev pub decreases-loop-r : goal.decreases-loop-r
-decreases-loop-r l = 64 - l.r
+invariant-loop-r l = (l.n ≤ l.r) × NoneBelow (unlike l.registers l.trace l.k) l.n l.r
