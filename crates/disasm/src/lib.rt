@@ -12,18 +12,13 @@ ghost use Rattle.disasm.specs.Assembly.{row_text, opcode_text, instruction_text,
 use crate::operands::put_operands;
 use fieldtext::kinds::kinds_of;
 use fieldtext::modifiers::put_modifiers;
-use fieldtext::values::{FLOW, Names, put_value};
+use fieldtext::values::{Kind, Names, put_value};
 use record::instruction::Instruction;
 use rows::names::WIDTH;
 use text::name::put_name;
 use text::put::put_text;
 
 mod operands;
-
-// The numbers of the kinds that are the instruction's own.
-const FIRST_OWN: u8 = 1;
-
-const LAST_OWN: u8 = 12;
 
 const OWN: usize = 7;
 
@@ -59,14 +54,14 @@ fn put_opcode(names: &Names, kinds: &[u8], values: &[u8], x: Instruction, out: &
     let mut at = put_row(x.row, out);
     at += put_modifiers(
         names,
-        FIRST_OWN,
-        LAST_OWN,
+        Kind::NanMode as u8,
+        Kind::Saturate as u8,
         kinds,
         values,
         &OWN_PLACES,
         &mut out[at..],
     );
-    at += put_value(names, FLOW, x.flow, &mut out[at..]);
+    at += put_value(names, Kind::Flow as u8, x.flow, &mut out[at..]);
     at
 }
 

@@ -9,7 +9,7 @@ ghost use Rattle.sourcetext.specs.SourceText.{longest_source};
 ghost use Rattle.disasm.specs.Assembly.{separator, signed_text, first_operand, last_operand, operands_text, before_sources, longest_operands};
 ghost use Rattle.disasm.specs.Served.Places.{coded_sources};
 
-use fieldtext::values::{HALF_MASK, Names, put_value};
+use fieldtext::values::{Kind, Names, put_value};
 use record::instruction::Instruction;
 use record::registers::{has_destination, source_count};
 use sourcetext::put_source;
@@ -35,7 +35,7 @@ fn put_destination(names: &Names, x: Instruction, out: &mut [u8]) -> usize
         return 0;
     }
     let at = put_labelled(b" r", x.register as u64, 10, 3, out);
-    at + put_value(names, HALF_MASK, x.half_mask, &mut out[at..])
+    at + put_value(names, Kind::HalfMask as u8, x.half_mask, &mut out[at..])
 }
 
 // The first n sources, of modifiers of these kinds and values, with their bytes on a page, after so many operands.
@@ -53,11 +53,9 @@ fn put_sources(
     ensures { Put (coded_sources kinds.now values.now page bytes.now first n) out.old out.new result × (result ≤ (2 + longest_source) * n) }
 {
     let mut at = 0;
-    let mut k = 0;
-    while k < n {
+    for k in 0..n {
         at += put_separator(first + k, &mut out[at..]);
         at += put_source(names, kinds, values, page, bytes[k], k, &mut out[at..]);
-        k += 1;
     }
     at
 }
@@ -67,11 +65,11 @@ fn put_signed(z: i32, out: &mut [u8]) -> usize
     requires { 11 ≤ length out.old }
     ensures { Put (signed_text z) out.old out.new result × (result ≤ 11) }
 {
+    let size = u64::from(z.unsigned_abs());
     if 0 <= z {
-        return put_number(z as u64, 10, 10, out);
+        return put_number(size, 10, 10, out);
     }
-    let k = (-1 - z) as u64;
-    put_labelled(b"-", k + 1, 10, 10, out)
+    put_labelled(b"-", size, 10, 10, out)
 }
 
 // The branch offset, if the row has one.

@@ -4,7 +4,6 @@ ghost use Rattle.rows.specs.Rows.{row_of};
 ghost use Rattle.fieldtext.specs.Served.Coded.{row_kinds, kind_table};
 
 use record::instruction::{Instruction, MODIFIERS};
-use text::put::put_text;
 
 type Kinds = [u8; MODIFIERS * Instruction::ROWS];
 
@@ -106,7 +105,6 @@ pub fn kinds_of(row: u8) -> [u8; MODIFIERS]
     }
     let table = all();
     let at = k * MODIFIERS;
-    let end = at + MODIFIERS;
-    put_text(&table[at..end], &mut kinds);
+    kinds.copy_from_slice(&table[at..at + MODIFIERS]);
     kinds
 }

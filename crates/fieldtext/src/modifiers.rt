@@ -25,10 +25,7 @@ fn put_modifier(
         return 0;
     }
     let kind = kinds[at];
-    if kind < first {
-        return 0;
-    }
-    if last < kind {
+    if kind < first || last < kind {
         return 0;
     }
     put_value(names, kind, values[at], out)
@@ -48,10 +45,8 @@ pub fn put_modifiers(
     ensures { Put (coded_texts first last kinds.now values.now places.now) out.old out.new result × (result ≤ value_width * length places.now) }
 {
     let mut at = 0;
-    let mut i = 0;
-    while i < places.len() {
-        at += put_modifier(names, first, last, kinds, values, places[i], &mut out[at..]);
-        i += 1;
+    for place in places.iter() {
+        at += put_modifier(names, first, last, kinds, values, *place, &mut out[at..]);
     }
     at
 }

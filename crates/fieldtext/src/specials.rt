@@ -98,14 +98,10 @@ pub fn put_special(page: u8, i: u8, out: &mut [u8]) -> usize
 {
     let p = page as usize;
     let k = i as usize;
-    if PAGES <= p {
-        return put_text(b"?", out);
-    }
-    if SPECIALS <= k {
+    if PAGES <= p || SPECIALS <= k {
         return put_text(b"?", out);
     }
     let names = all();
     let at = (p * SPECIALS + k) * WIDTH;
-    let end = at + WIDTH;
-    put_padded(&names[at..end], out)
+    put_padded(&names[at..at + WIDTH], out)
 }

@@ -16,10 +16,35 @@ const KINDS: usize = 26;
 
 pub type Names = [u8; WIDTH * VALUES];
 
-// The numbers of kinds that are no modifiers.
-pub const HALF_MASK: u8 = 24;
-
-pub const FLOW: u8 = 25;
+// The kinds of modifiers by number, in the order of the tables below, and the two that are no modifiers. A place without one has the number 0.
+#[derive(Clone, Copy, Debug, PartialEq, Eq)]
+pub enum Kind {
+    NanMode = 1,
+    Ftz = 2,
+    FlushInf = 3,
+    Conservative = 4,
+    Eq = 5,
+    Condition = 6,
+    IntegerCondition = 7,
+    Mux = 8,
+    Clamp = 9,
+    RoundMode = 10,
+    ResultType = 11,
+    Saturate = 12,
+    Negate = 13,
+    Absolute = 14,
+    Widen = 15,
+    SwizzleHalf = 16,
+    Lane8 = 17,
+    Lane16 = 18,
+    Swizzle32 = 19,
+    Swizzle16 = 20,
+    Swizzle8 = 21,
+    HalfSwizzle = 22,
+    Combine = 23,
+    HalfMask = 24,
+    Flow = 25,
+}
 
 // Where the names of a kind's values begin, and how many they are.
 const FIRST: [u8; KINDS] = [
@@ -202,7 +227,5 @@ pub fn put_value(names: &Names, kind: u8, v: u8, out: &mut [u8]) -> usize
         return put_text(b".?", out);
     }
     let at = (FIRST[k] as usize + v as usize) * WIDTH;
-    let end = at + WIDTH;
-    let all = &names[..];
-    put_padded(&all[at..end], out)
+    put_padded(&names[at..at + WIDTH], out)
 }

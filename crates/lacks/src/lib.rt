@@ -2,13 +2,13 @@
 #![tactic(auto)]
 
 ghost use Rattle.std.specs.Prelude.{◌≡◌, ◌≤◌, length};
+ghost use Rattle.rows.specs.Names.{name_of, name_width};
 ghost use Rattle.rows.specs.Rows.{rows};
 ghost use Rattle.rows.specs.Layout.{find};
 ghost use Rattle.text.specs.Text.{Put};
 ghost use Rattle.lacks.specs.Lacks.{stray_text, lack_at, lack_text};
 
 use lookup::line_of;
-use record::instruction::Instruction;
 use text::name::put_name;
 use text::put::{put_enclosed, put_labelled, put_text};
 
@@ -21,13 +21,15 @@ const DESTINATION: u8 = 40;
 
 const OPCODE: u8 = 48;
 
-// The number of the row that a word fits, or that past the last one.
-fn row_of(w: u64) -> usize
-    ensures { result ≡ find rows 0 w }
+// The name of the row that a word fits, if there is one.
+fn put_row(w: u64, out: &mut [u8]) -> usize
+    requires { name_width ≤ length out.old }
+    ensures { Put (name_of (find rows 0 w)) out.old out.new result × (result ≤ name_width) }
 {
+    let names = rows::names::all();
     match line_of(w) {
-        Some(l) => (l.shape / 281474976710656) as usize,
-        None => Instruction::ROWS,
+        Some(l) => put_name(&names, (l.shape >> 48) as usize, out),
+        None => 0,
     }
 }
 
@@ -54,9 +56,8 @@ pub fn put_stray(w: u64, place: u8, out: &mut [u8]) -> usize
     requires { 80 ≤ length out.old }
     ensures { Put (stray_text w place) out.old out.new result × (result ≤ 80) }
 {
-    let names = rows::names::all();
     let mut at = put_enclosed(b"bit ", place as u64, 3, b" is 1, where ", out);
-    at += put_name(&names, row_of(w), &mut out[at..]);
+    at += put_row(w, &mut out[at..]);
     at += put_text(b" has ", &mut out[at..]);
     at += put_lack(place, &mut out[at..]);
     at

@@ -1,19 +1,22 @@
 -- What is left out, entry by entry: the name that a word has, and what the code's tables say. Assumes nothing.
 use mathlib.Core.Path.{◌≡◌, refl, sym, ap, ◌∙◌, subst}
-use mathlib.Core.Bool.{Bool, true, false, ◌&&◌}
-use mathlib.Core.List.{List, [], ◌∷◌, ◌++◌}
+use mathlib.Core.Bool.{Bool, true, false, cond, not, ◌&&◌}
+use mathlib.Core.List.{List, [], ◌∷◌, ◌++◌, map}
 use Prim.Native.Nat.{ℕ, zero, suc, ◌+◌, ◌-◌, ◌*◌, ◌<◌, ◌≤◌}
 use native.Mathlib.Nat.{not-suc-le-zero, le_of_suc-le-suc}
 use native.Mathlib.Omega.{arith}
-use lib.Dec.{T, eqb, leb, eqb→eq, leb→le}
-use lib.ListN.{length, take, drop, get_or, replicate, length-append, length-replicate, drop_of_length-le, get_or-eq_default}
-use lib.Seq.{drop-cons, take_at, drop_at, drop-drop}
-use Rattle.bits.specs.Fields.{bits}
+use lib.Dec.{T, eqb, leb, ltb, eqb→eq, leb→le}
+use lib.ListN.{length, take, drop, get_or, replicate, length-append, length-replicate, length-map, get_or-eq_default}
+use lib.Seq.{take_at, drop_at, drop-drop}
+use native.Mathlib.Numerals.{one-add}
+use Rattle.std.specs.Prelude.{Some, None}
+use Rattle.std.proofs.lemmas.Bool.Decides.{nat_tests}
+use Rattle.std.specs.List.{position, position_or_len}
+use Rattle.bits.specs.Fields.{bits, choose}
 use Rattle.bits.proofs.Every.{every, at, and_l, and_r}
 use Rattle.rows.specs.Names.{ascii}
-use Rattle.rows.proofs.TableLaws.{get_or_map_in}
 use Rattle.leftout.specs.Omitted.{Omitted, omitted, omitted_at, omitted_count, longest_omitted, none}
-use Rattle.leftout.specs.LeftOut.{fits, first_name}
+use Rattle.leftout.specs.LeftOut.{fits, first_name, left_out}
 use Rattle.leftout.specs.Served.Tables.{omitted_name, key_of, key_fits, key_table, filled, joined, name_text, before_filling, unfilled}
 
 count_omitted : length omitted ≡ omitted_count
@@ -23,26 +26,9 @@ count_omitted = refl
 pub in_omitted : (k : ℕ) → k < omitted_count → k < length omitted
 in_omitted k h = subst (λ (n : ℕ). k < n) (sym count_omitted) h
 
--- ---- the name, looked for from entry i on
-
-module _ (w i : ℕ) where
-  pub fits_here : i < omitted_count → fits (omitted_at i) w ≡ true → first_name (drop i omitted) w ≡ omitted_name i
-  unfolding first_name
-  fits_here h e = rw (drop-cons omitted i none (in_omitted i h), e)
-
-  pub fits_not : i < omitted_count → fits (omitted_at i) w ≡ false → first_name (drop i omitted) w ≡ first_name (drop (suc i) omitted) w
-  unfolding first_name
-  fits_not h e = rw (drop-cons omitted i none (in_omitted i h), e)
-
 pub no_name : (k : ℕ) → omitted_count ≤ k → omitted_name k ≡ []
 unfolding ascii
 no_name k h = ap (λ (o : Omitted). ascii o.name) (get_or-eq_default omitted none (omega (arith, count_omitted)))
-
-pub none_left : (w i : ℕ) → omitted_count ≤ i → first_name (drop i omitted) w ≡ omitted_name i
-unfolding first_name
-none_left w i h =
-    let l : length omitted ≤ i = omega (arith, count_omitted) in
-    rw (drop_of_length-le omitted l) (sym (no_name i h))
 
 -- ---- keys
 
@@ -71,14 +57,47 @@ key_told w k o t =
     let ed : bits (key_of o) 15 3 ≡ o.second_width = eqb→eq _ _ (and_r c d r) in
     rw (ea, eb, ec, ed)
 
--- as it is read from the code's table
-pub key_read : {keys : List ℕ} (w k : ℕ) → keys ≡ key_table → k < omitted_count → key_fits (get_or keys k 0) w ≡ fits (omitted_at k) w
-unfolding told key_table
-key_read w k e h =
-    let l = in_omitted k h in
-    ap (λ (t : List ℕ). key_fits (get_or t k 0) w) e
-    ∙ ap (λ (x : ℕ). key_fits x w) (get_or_map_in key_of omitted k none 0 l)
-    ∙ key_told w k (omitted_at k) (at told omitted none all_told k l)
+-- what a position says of the place
+placed : (n len k : ℕ) → cond (ltb n len) (Some n) None ≡ Some k → (k ≡ n) × (n < len)
+placed n len k e = (grind (arith, nat_tests), grind (arith, nat_tests))
+
+unplaced : (n len : ℕ) → cond (ltb n len) (Some n) None ≡ None → len ≤ n
+unplaced n len e = grind (arith, nat_tests)
+
+-- the name of a word is that of the first entry whose key it fits
+module _ (w : ℕ) where
+  abbrev by_key : ℕ → Bool
+  by_key key = key_fits key w
+
+  first_at : (os : List Omitted) (i : ℕ) → T (every told i os) → first_name os w ≡ ascii (get_or os (position_or_len by_key (map key_of os)) none).name
+  unfolding first_name ascii
+  first_at [] i t = refl
+  first_at (o ∷ os) i t =
+      let e = key_told w i o (and_l (told i o) (every told (suc i) os) t) in
+      let r = first_at os (suc i) (and_r (told i o) (every told (suc i) os) t) in
+      rw e (elim (fits o w) as (λ b. choose b (ascii o.name) (first_name os w) ≡ ascii (get_or (o ∷ os) (cond (not b) (1 + position_or_len by_key (map key_of os)) 0) none).name) [
+        | true ↦ refl
+        | false ↦ rw (one-add (position_or_len by_key (map key_of os))) r
+      ])
+
+  first : left_out w ≡ omitted_name (position_or_len by_key key_table)
+  unfolding key_table
+  first = first_at omitted 0 all_told
+
+  keys_counted : length key_table ≡ omitted_count
+  unfolding key_table
+  keys_counted = simp length-map count_omitted
+
+  pub fitting : (k : ℕ) → position by_key key_table ≡ Some k → (k < omitted_count) × (left_out w ≡ omitted_name k)
+  fitting k e =
+      let n = position_or_len by_key key_table in
+      let q = placed n (length key_table) k e in
+      (omega (arith, keys_counted, q.0, q.1), rw q.0 first)
+
+  pub fitting_none : position by_key key_table ≡ None → left_out w ≡ []
+  fitting_none e =
+      let n = position_or_len by_key key_table in
+      first ∙ no_name n (omega (arith, keys_counted, unplaced n (length key_table) e))
 
 -- ---- names
 

@@ -47,10 +47,8 @@ pub(crate) fn put_lines(bytes: &[u8], out: &mut [u8]) -> usize
     let names = rows::names::all();
     let n = open_count(bytes);
     let mut at = 0;
-    let mut i = 0;
-    while i < n {
+    for i in 0..n {
         at += put_word(&names, bytes, i, &mut out[at..]);
-        i += 1;
     }
     at
 }

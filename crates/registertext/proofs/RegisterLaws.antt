@@ -1,7 +1,7 @@
 -- The registers of a set one after another. Assumes nothing.
 use mathlib.Core.Path.{◌≡◌, refl, sym, ap, ◌∙◌}
 use mathlib.Core.Bool.{true, false}
-use mathlib.Core.List.{List, [], ◌++◌}
+use mathlib.Core.List.{List, ◌++◌}
 use Prim.Native.Nat.{ℕ, suc, ◌+◌, ◌-◌, ◌<◌, ◌≤◌}
 use native.Mathlib.Omega.{arith}
 use native.Mathlib.Numerals.{add-one}
@@ -14,20 +14,6 @@ use Rattle.rows.specs.Names.{ascii}
 use Rattle.text.specs.Text.{number_text, Put}
 use Rattle.text.proofs.TextLaws.{put_nothing}
 use Rattle.registertext.specs.Registers.{mask_at, mask_letter, same_before, same_after, member_text, members_text, registers_text}
-
--- the letter of a half
-pub low_letter : (m : ℕ) → m ≡ 1 → ascii "L" ≡ mask_letter m
-unfolding mask_letter
-low_letter m e = rw (eq-eqb m 1 e)
-
-module _ (m : ℕ) (l : m ≡ 1 → ⊥) where
-  pub high_letter : m ≡ 2 → ascii "H" ≡ mask_letter m
-  unfolding mask_letter
-  high_letter e = rw (ne_eqb m 1 l, eq-eqb m 2 e)
-
-  pub no_letter : (m ≡ 2 → ⊥) → mask_letter m ≡ []
-  unfolding mask_letter
-  no_letter h = rw (ne_eqb m 1 l, ne_eqb m 2 h)
 
 module _ (s : Halves) (r : ℕ) where
   abbrev m : ℕ

@@ -30,10 +30,7 @@ fn same_before(s: Halves, r: u64) -> bool
     requires { r < 64 }
     ensures { result ≡ same_before s r }
 {
-    if r == 0 {
-        return false;
-    }
-    mask_at(s, r - 1) == mask_at(s, r)
+    r != 0 && mask_at(s, r - 1) == mask_at(s, r)
 }
 
 // Whether the one after it has.
@@ -41,24 +38,20 @@ fn same_after(s: Halves, r: u64) -> bool
     requires { r < 64 }
     ensures { result ≡ same_after s r }
 {
-    if r < REGISTERS - 1 {
-        return mask_at(s, r + 1) == mask_at(s, r);
-    }
-    false
+    r < REGISTERS - 1 && mask_at(s, r + 1) == mask_at(s, r)
 }
 
 // The letter where there is only one half.
+#[tactic(auto, unfolding(crate::specs::Registers::mask_letter, rows::specs::Names::ascii))]
 fn put_letter(mask: u64, out: &mut [u8]) -> usize
     requires { 1 ≤ length out.old }
     ensures { Put (mask_letter mask) out.old out.new result × (result ≤ 1) }
 {
-    if mask == 1 {
-        return put_byte(b'L', out);
+    match mask {
+        1 => put_byte(b'L', out),
+        2 => put_byte(b'H', out),
+        _ => 0,
     }
-    if mask == 2 {
-        return put_byte(b'H', out);
-    }
-    0
 }
 
 // A text, a register's number and the letter of its half.
@@ -101,10 +94,8 @@ pub fn put_registers(s: Halves, out: &mut [u8]) -> usize
     }
     let low = lowest(any);
     let mut at = 0;
-    let mut r = 0;
-    while r < REGISTERS {
+    for r in 0..REGISTERS {
         at += put_member(s, low, r, &mut out[at..]);
-        r += 1;
     }
     at
 }

@@ -53,9 +53,10 @@ fn half_told(version: u64, half: Reported) -> Reported
     ensures { result ≡ choose (eqb version 1) Neither half }
 {
     if version == 1 {
-        return Reported::Neither;
+        Reported::Neither
+    } else {
+        half
     }
-    half
 }
 
 // A verdict as it is told of a version.
@@ -64,16 +65,10 @@ fn told_of(version: u64, v: Verdict) -> Verdict
 {
     match v {
         Ok(()) => Ok(()),
-        Err(f) => {
-            let half = f.half;
-            Err(Finding {
-                number: f.number,
-                place: f.place,
-                index: f.index,
-                register: f.register,
-                half: half_told(version, half),
-            })
-        }
+        Err(f) => Err(Finding {
+            half: half_told(version, f.half),
+            ..f
+        }),
     }
 }
 
@@ -83,8 +78,7 @@ fn put_opened(bytes: &[u8], h: Header, v: Verdict, out: &mut [u8]) -> usize
     ensures { Put (shown_of bytes.now (verdict_outcome v) (gives h)) out.old out.new result }
 {
     let told = told_of(h.version, v);
-    let entry = h.entry;
-    let mut at = put_head(h.version, h.count, entry, out);
+    let mut at = put_head(h.version, h.count, h.entry, out);
     let notes = annotations(bytes);
     let code = words(bytes);
     at += put_program(h.version, code, notes, h.count, told, &mut out[at..]);
@@ -97,8 +91,7 @@ fn put_shown(bytes: &[u8], out: &mut [u8]) -> usize
     ensures { Put (shown bytes.now) out.old out.new result }
 {
     let v = verifier::verify(bytes);
-    let o = open(bytes);
-    match o {
+    match open(bytes) {
         Ok(h) => put_opened(bytes, h, v, out),
         Err(_) => put_verdict(v, out),
     }

@@ -1,5 +1,5 @@
 // A program line by line, with the line above that names the columns.
-ghost use Rattle.std.specs.Prelude.{◌≡◌, [], ◌++◌, ◌+◌, ◌-◌, ◌*◌, ◌<◌, ◌≤◌, eqb, length};
+ghost use Rattle.std.specs.Prelude.{◌≡◌, [], ◌++◌, ◌+◌, ◌*◌, ◌<◌, ◌≤◌, eqb, length};
 ghost use Rattle.bits.specs.Fields.{choose};
 ghost use Rattle.safety.specs.Program.{Worded, Annotated};
 ghost use Rattle.safety.specs.Verdict.{verdict_outcome};
@@ -21,20 +21,13 @@ use verdicttext::words::{LONGEST_FAULT, fault_index, put_fault};
 // The length of a title.
 const TITLE: usize = 11;
 
-// How many spaces fill the title of the column for the text of instructions.
-fn fill(width: usize) -> usize
-    ensures { result ≡ width - 11 }
-{
-    if width <= TITLE { 0 } else { width - TITLE }
-}
-
 // The names of the columns.
 fn put_title(width: usize, out: &mut [u8]) -> usize
     requires { (width ≤ longest_column) × (longest_title ≤ length out.old) }
     ensures { Put (title width) out.old out.new result × (result ≤ longest_title) }
 {
     let mut at = put_text(b"       word              instruction", out);
-    at += put_spaces(fill(width), &mut out[at..]);
+    at += put_spaces(width.saturating_sub(TITLE), &mut out[at..]);
     at += put_text(b"  note\n", &mut out[at..]);
     at
 }
@@ -42,7 +35,7 @@ fn put_title(width: usize, out: &mut [u8]) -> usize
 // The line of instruction i of n, and the text more where it is at fault.
 fn put_entry(
     version: u64,
-    marks: &[u8; MOST_INSTRUCTIONS],
+    marks: &[bool; MOST_INSTRUCTIONS],
     words: &[u8],
     notes: &[u8],
     n: usize,
@@ -57,7 +50,7 @@ fn put_entry(
 {
     let w = number_at(words, n, i);
     let note = annotation_at(version, notes, n, i);
-    let at = put_line(marks[i] == 1, n, width, i, w, note, out);
+    let at = put_line(marks[i], n, width, i, w, note, out);
     if i != faulty {
         return at;
     }
@@ -67,7 +60,7 @@ fn put_entry(
 // The lines.
 fn put_lines(
     version: u64,
-    marks: &[u8; MOST_INSTRUCTIONS],
+    marks: &[bool; MOST_INSTRUCTIONS],
     words: &[u8],
     notes: &[u8],
     n: usize,
@@ -80,8 +73,7 @@ fn put_lines(
     ensures { Put (lines version words.now notes.now n width faulty fault.now n) out.old out.new result × (result ≤ (longest_line + longest_fault) * n) }
 {
     let mut at = 0;
-    let mut i = 0;
-    while i < n {
+    for i in 0..n {
         at += put_entry(
             version,
             marks,
@@ -94,7 +86,6 @@ fn put_lines(
             i,
             &mut out[at..],
         );
-        i += 1;
     }
     at
 }

@@ -1,5 +1,5 @@
 // The lines for the words of a program.
-ghost use Rattle.std.specs.Prelude.{◌≡◌, [], ◌∷◌, ◌++◌, ◌*◌, ◌<◌, ◌≤◌, max, length};
+ghost use Rattle.std.specs.Prelude.{◌≡◌, [], ◌∷◌, ◌++◌, ◌*◌, ◌<◌, ◌≤◌, length};
 ghost use Rattle.container.specs.Formats.{most_instructions};
 ghost use Rattle.rows.specs.Names.{ascii};
 ghost use Rattle.safety.specs.Program.{Worded};
@@ -33,14 +33,7 @@ pub fn number_at(bytes: &[u8], n: usize, i: usize) -> u64
     ensures { result ≡ number_in bytes.now i }
 {
     let start = WORD_LENGTH * i;
-    let end = start + WORD_LENGTH;
-    load64(&bytes[start..end])
-}
-
-fn larger(a: usize, b: usize) -> usize
-    ensures { result ≡ max a b }
-{
-    if a < b { b } else { a }
+    load64(&bytes[start..start + WORD_LENGTH])
 }
 
 // The width of the column for the text of instructions.
@@ -50,11 +43,8 @@ pub fn widest(words: &[u8], n: usize) -> usize
 {
     let mut column = [0u8; wordtext::column::LONGEST];
     let mut most = TITLE;
-    let mut i = 0;
-    while i < n {
-        let k = put_column(n, i, number_at(words, n, i), &mut column);
-        most = larger(most, k);
-        i += 1;
+    for i in 0..n {
+        most = most.max(put_column(n, i, number_at(words, n, i), &mut column));
     }
     most
 }
@@ -65,12 +55,10 @@ fn put_wide(n: usize, i: usize, w: u64, width: usize, out: &mut [u8]) -> usize
     ensures { Put (padded width (column_of n i w)) out.old out.new result × (result ≤ longest_column) }
 {
     let at = put_column(n, i, w, out);
-    if width <= at {
-        return at;
-    }
-    at + put_spaces(width - at, &mut out[at..])
+    at + put_spaces(width.saturating_sub(at), &mut out[at..])
 }
 
+#[tactic(auto, unfolding(rows::specs::Names::ascii))]
 fn mark_byte(mark: bool) -> u8
     ensures { (result ∷ []) ≡ mark_text mark }
 {

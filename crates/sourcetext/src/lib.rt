@@ -11,18 +11,9 @@ ghost use Rattle.sourcetext.specs.Served.SourcePlaces.{sign_places, swizzle_plac
 
 use fieldtext::modifiers::put_modifiers;
 use fieldtext::specials::put_special;
-use fieldtext::values::Names;
+use fieldtext::values::{Kind, Names};
 use sources::{Source, meaning};
 use text::put::{put_labelled, put_text};
-
-// The numbers of the kinds that are signs, and of those that are swizzles.
-const FIRST_SIGN: u8 = 13;
-
-const LAST_SIGN: u8 = 14;
-
-const FIRST_SWIZZLE: u8 = 15;
-
-const LAST_SWIZZLE: u8 = 23;
 
 // A word of a special constant.
 fn put_part(page: u8, i: u8, part: &[u8], out: &mut [u8]) -> usize
@@ -38,8 +29,7 @@ fn put_meaning(page: u8, byte: u8, out: &mut [u8]) -> usize
     requires { special_width + 3 ≤ length out.old }
     ensures { Put (meaning_text (meaning_of page byte)) out.old out.new result × (result ≤ special_width + 3) }
 {
-    let m = meaning(page, byte);
-    match m {
+    match meaning(page, byte) {
         Source::Read(r) => put_labelled(b"r", r as u64, 10, 3, out),
         Source::Released(r) => put_labelled(b"^r", r as u64, 10, 3, out),
         Source::Uniform(u) => put_labelled(b"u", u as u64, 10, 5, out),
@@ -92,8 +82,8 @@ pub fn put_source(
     let mut at = put_meaning(page, byte, out);
     at += put_modifiers(
         names,
-        FIRST_SIGN,
-        LAST_SIGN,
+        Kind::Negate as u8,
+        Kind::Absolute as u8,
         kinds,
         values,
         &signs,
@@ -101,8 +91,8 @@ pub fn put_source(
     );
     at += put_modifiers(
         names,
-        FIRST_SWIZZLE,
-        LAST_SWIZZLE,
+        Kind::Widen as u8,
+        Kind::Combine as u8,
         kinds,
         values,
         &swizzles,

@@ -4,9 +4,19 @@ use mathlib.Core.List.{List, [], ◌∷◌, ◌++◌, append_assoc, append-nil}
 use Prim.Native.Nat.{ℕ, zero, suc, ◌+◌, ◌-◌, ◌/◌, ◌%◌, ◌<◌, ◌≤◌}
 use native.Mathlib.Omega.{arith}
 use borrow.Author.Tests.{lt-ltb, le-ltb}
-use lib.ListN.{length, take, drop, set, get_or, replicate, length-append, length-set, length-drop, length-replicate}
-use lib.Seq.{drop-cons, drop-set-lt, get_or-set_same, append_snoc, set_at, set_split, take_at, drop_at, take-length, drop-length, drop-drop}
-use Rattle.text.specs.Text.{space, digit, digits, digit_count, Put}
+use lib.Dec.{eqb, ltb}
+use mathlib.Core.Bool.{cond, not}
+use Rattle.std.specs.Prelude.{Some, None}
+use lib.ListN.{length, take, drop, set, length-append, length-set, length-drop}
+use lib.Seq.{drop-cons, drop-set-lt, get_or-set_same, append_snoc, set_split, take_at, drop_at, take-length, drop-length, drop-drop}
+use Rattle.std.specs.List.{position, position_or_len}
+use Rattle.std.specs.Option.{unwrap_or}
+use Rattle.std.proofs.lemmas.Bool.Decides.{nat_tests}
+use Rattle.std.proofs.lemmas.List.Sums.{prefix_len-le-length}
+use Rattle.std.proofs.lemmas.List.Recursion.{is_position_or_len}
+use native.Mathlib.Numerals.{one-add}
+use Rattle.rows.specs.Names.{before_space}
+use Rattle.text.specs.Text.{digit, digits, digit_count, Put}
 
 pub length_digits : (base k n : ℕ) → length (digits base k n) ≡ k
 unfolding digits
@@ -86,13 +96,16 @@ put_front {x} {before} {r = r} p = ap (take r) p.fills ∙ take_at x (drop (leng
 pub put_room : {x before after : List ℕ} {r : ℕ} → Put x before after r → r ≤ length after
 put_room {x} {before} p = rw p.fills (simp length-append (omega (arith, p.counts)))
 
--- a space more after those that are there
-moved : (i : ℕ) (rest : List ℕ) → replicate i space ++ (space ∷ rest) ≡ replicate (suc i) space ++ rest
-moved zero rest = refl
-moved (suc i) rest = ap (λ (l : List ℕ). space ∷ l) (moved i rest)
+-- the count up to a space is the place of the first one, or the length
+found_or : (n len : ℕ) → n ≤ len → unwrap_or (cond (ltb n len) (Some n) None) len ≡ n
+found_or n len h = grind (arith, nat_tests, unwrap_or)
 
-pub one_space : (i : ℕ) (before : List ℕ) {out : List ℕ} → i < length before → out ≡ replicate i space ++ drop i before
-    → set out i space ≡ replicate (suc i) space ++ drop (suc i) before
-one_space i before h e =
-    rw (e, drop-cons before i 0 h)
-    (set_at (replicate i space) (get_or before i 0) (drop (suc i) before) space i (length-replicate i space) ∙ moved i (drop (suc i) before))
+first_space : (s : List ℕ) → before_space s ≡ position_or_len (λ b. eqb b 32) s
+unfolding before_space
+first_space = is_position_or_len before_space (λ b. eqb b 32) refl (λ _ xs. rw (one-add (before_space xs)))
+
+pub space_within : (s : List ℕ) → before_space s ≤ length s
+space_within s = rw (first_space s) (prefix_len-le-length (λ b. not (eqb b 32)) s)
+
+pub space_at : (s : List ℕ) → unwrap_or (position (λ b. eqb b 32) s) (length s) ≡ before_space s
+space_at s = found_or (position_or_len (λ b. eqb b 32) s) (length s) (prefix_len-le-length (λ b. not (eqb b 32)) s) ∙ sym (first_space s)

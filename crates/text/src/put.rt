@@ -1,6 +1,5 @@
 // Numbers, bytes and texts at the front of a buffer, which is otherwise left as it is. Each answers how many bytes it put.
-ghost use Rattle.std.specs.Prelude.{◌≡◌, [], ◌∷◌, ◌++◌, ◌+◌, ◌<◌, ◌≤◌, length, replicate};
-ghost use Rattle.rows.specs.Names.{before_space};
+ghost use Rattle.std.specs.Prelude.{◌≡◌, [], ◌∷◌, ◌++◌, ◌+◌, ◌<◌, ◌≤◌, ◌==◌, length, position, replicate};
 ghost use Rattle.text.specs.Text.{space, digit, digits, digit_count, number_text, unpadded, Put};
 
 // A digit of a base up to 16.
@@ -20,10 +19,8 @@ pub fn put_digits(n: u64, base: u64, k: usize, out: &mut [u8]) -> usize
     requires { (0 < base) × (base ≤ 16) × (k ≤ length out.old) }
     ensures { Put (digits base k n) out.old out.new result × (result ≡ k) }
 {
-    let mut i = k;
     let mut rest = n;
-    while i > 0 {
-        i -= 1;
+    for i in (0..k).rev() {
         out[i] = digit(rest % base);
         rest /= base;
     }
@@ -59,16 +56,14 @@ fn digit_count(n: u64, base: u64, most: usize) -> usize
     requires { 0 < base }
     ensures { (result ≡ digit_count base most n) × (result ≤ most) }
 {
-    let mut k = 0;
     let mut rest = n;
-    while k < most {
+    for k in 0..most {
         if rest < base {
             return k + 1;
         }
         rest /= base;
-        k += 1;
     }
-    k
+    most
 }
 
 // A number without zeros in front of it, in at most so many digits.
@@ -103,26 +98,15 @@ pub fn put_spaces(k: usize, out: &mut [u8]) -> usize
     requires { k ≤ length out.old }
     ensures { Put (replicate k space) out.old out.new result × (result ≡ k) }
 {
-    let mut i = 0;
-    while i < k {
-        out[i] = b' ';
-        i += 1;
-    }
-    i
+    out[..k].fill(b' ');
+    k
 }
 
-// How many bytes stand before the first space.
-fn before_space(s: &[u8]) -> usize
-    ensures { (result ≡ before_space s.now) × (result ≤ length s.now) }
+// Where the first space stands.
+fn first_space(s: &[u8]) -> Option<usize>
+    ensures { result ≡ position (λ b. b == 32) s.now }
 {
-    let mut n = 0;
-    while n < s.len() {
-        if s[n] == b' ' {
-            return n;
-        }
-        n += 1;
-    }
-    n
+    s.iter().position(|b| *b == b' ')
 }
 
 // A text that is filled with spaces, without them.
@@ -130,6 +114,6 @@ pub fn put_padded(s: &[u8], out: &mut [u8]) -> usize
     requires { length s.now ≤ length out.old }
     ensures { Put (unpadded s.now) out.old out.new result × (result ≤ length s.now) }
 {
-    let n = before_space(s);
+    let n = first_space(s).unwrap_or(s.len());
     put_text(&s[..n], out)
 }

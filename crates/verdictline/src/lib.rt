@@ -7,6 +7,7 @@ ghost use Rattle.safety.specs.Verdict.{verdict_outcome};
 ghost use Rattle.text.specs.Text.{line_feed, Put};
 ghost use Rattle.verdictline.specs.VerdictLine.{lists, half_letter, place_field, verdict_line, longest_verdict};
 
+use reasons::Reason;
 use safety::verdict::{Finding, Reported, Verdict};
 use text::put::{put_byte, put_spaced, put_text};
 
@@ -14,14 +15,15 @@ use text::put::{put_byte, put_spaced, put_text};
 pub const LONGEST_VERDICT: usize = 7 + 1 + 2 + 1 + 4 + 1 + 2 + 1 + 1 + 2 + 1;
 
 // The lowest number of a refusal that comes after all words were read.
-const WORDS_READ: u8 = 20;
+const WORDS_READ: u8 = Reason::ReadMissing as u8;
 
 // The numbers of the refusals of a word that does not read.
-const FIRST_OF_READING: u8 = 2;
+const FIRST_OF_READING: u8 = Reason::NoRow as u8;
 
-const LAST_OF_READING: u8 = 7;
+const LAST_OF_READING: u8 = Reason::IllegalSource as u8;
 
 // Whether a verdict comes after all words were read.
+#[tactic(auto, unfolding(crate::specs::VerdictLine::lists))]
 pub fn all_read(v: Verdict) -> bool
     ensures { result ≡ lists (verdict_outcome v) }
 {
@@ -36,10 +38,7 @@ fn put_place(f: Finding, out: &mut [u8]) -> usize
     requires { 3 ≤ length out.old }
     ensures { Put (place_field f) out.old out.new result × (result ≤ 3) }
 {
-    if f.number < FIRST_OF_READING {
-        return 0;
-    }
-    if LAST_OF_READING < f.number {
+    if f.number < FIRST_OF_READING || LAST_OF_READING < f.number {
         return 0;
     }
     put_spaced(f.place as u64, 10, 2, out)
@@ -55,6 +54,7 @@ fn put_end(f: Finding, out: &mut [u8]) -> usize
 }
 
 // The letter of a half, if there is one.
+#[tactic(auto, unfolding(crate::specs::VerdictLine::half_letter, rows::specs::Names::ascii))]
 pub fn put_letter(half: Reported, out: &mut [u8]) -> usize
     requires { 1 ≤ length out.old }
     ensures { Put (half_letter half) out.old out.new result × (result ≤ 1) }
@@ -71,17 +71,17 @@ fn put_finding(f: Finding, out: &mut [u8]) -> usize
     requires { longest_verdict ≤ length out.old }
     ensures { Put (verdict_line (refuses f)) out.old out.new result × (result ≤ longest_verdict) }
 {
-    let half = f.half;
     let mut at = put_text(b"REFUSED", out);
     at += put_spaced(f.number as u64, 10, 2, &mut out[at..]);
     at += put_spaced(f.index as u64, 10, 4, &mut out[at..]);
     at += put_spaced(f.register as u64, 10, 2, &mut out[at..]);
-    at += put_letter(half, &mut out[at..]);
+    at += put_letter(f.half, &mut out[at..]);
     at += put_end(f, &mut out[at..]);
     at
 }
 
 // The line of a verdict.
+#[tactic(auto, unfolding(crate::specs::VerdictLine::verdict_line, rows::specs::Names::ascii))]
 pub fn put_verdict(v: Verdict, out: &mut [u8]) -> usize
     requires { longest_verdict ≤ length out.old }
     ensures { Put (verdict_line (verdict_outcome v)) out.old out.new result × (result ≤ longest_verdict) }

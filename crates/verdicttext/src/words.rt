@@ -6,26 +6,27 @@ ghost use Rattle.text.specs.Text.{number_text, Put};
 ghost use Rattle.verdictline.specs.VerdictLine.{half_letter};
 ghost use Rattle.verdicttext.specs.Words.{why_text, fault_line, fault_index, instruction_fault, refusal_text, verdict_text, longest_why, longest_fault, longest_refusal, longest_verdict};
 
+use reasons::Reason;
 use safety::verdict::{Finding, Verdict};
 use text::put::{put_byte, put_enclosed, put_labelled, put_spaces, put_text};
 use verdictline::put_letter;
 
 // The numbers of the refusals, by reason.
-const WRONG_MARK: u8 = 10;
+const WRONG_MARK: u8 = Reason::WrongMark as u8;
 
-const WRONG_VERSION: u8 = 11;
+const WRONG_VERSION: u8 = Reason::WrongVersion as u8;
 
-const WRONG_LENGTH: u8 = 12;
+const WRONG_LENGTH: u8 = Reason::WrongLength as u8;
 
-const WRONG_ZERO: u8 = 13;
+const WRONG_ZERO: u8 = Reason::NotZero as u8;
 
-const READ_MISSING: u8 = 20;
+const READ_MISSING: u8 = Reason::ReadMissing as u8;
 
-const SUCCESSOR_OUTSIDE: u8 = 21;
+const SUCCESSOR_OUTSIDE: u8 = Reason::SuccessorOutside as u8;
 
-const SUCCESSOR_MISSING: u8 = 22;
+const SUCCESSOR_MISSING: u8 = Reason::SuccessorMissing as u8;
 
-const ENTRY_MISSING: u8 = 23;
+const ENTRY_MISSING: u8 = Reason::EntryMissing as u8;
 
 // The most bytes that these have.
 const WHY: usize = 97;
@@ -39,44 +40,38 @@ fn put_half(before: &[u8], f: Finding, after: &[u8], out: &mut [u8]) -> usize
     requires { length before.now + 3 + length after.now ≤ length out.old }
     ensures { Put (before.now ++ number_text 10 2 f.register ++ half_letter f.half ++ after.now) out.old out.new result × (result ≤ length before.now + 3 + length after.now) }
 {
-    let half = f.half;
     let mut at = put_labelled(before, f.register as u64, 10, 2, out);
-    at += put_letter(half, &mut out[at..]);
+    at += put_letter(f.half, &mut out[at..]);
     at += put_text(after, &mut out[at..]);
     at
 }
 
 // What is wrong with the instruction that a refusal names.
+#[tactic(auto, unfolding(crate::specs::Words::why_text, rows::specs::Names::ascii))]
 fn put_why(f: Finding, out: &mut [u8]) -> usize
     requires { longest_why ≤ length out.old }
     ensures { Put (why_text f) out.old out.new result × (result ≤ longest_why) }
 {
-    if f.number == READ_MISSING {
-        return put_half(b"reads r", f, b", which its note does not name", out);
-    }
-    if f.number == SUCCESSOR_OUTSIDE {
-        return put_text(b"can go on to a place outside the program", out);
-    }
-    if f.number == SUCCESSOR_MISSING {
-        return put_half(
+    match f.number {
+        READ_MISSING => put_half(b"reads r", f, b", which its note does not name", out),
+        SUCCESSOR_OUTSIDE => put_text(b"can go on to a place outside the program", out),
+        SUCCESSOR_MISSING => put_half(
             b"can go on to an instruction whose note names r",
             f,
             b", which by its own note it does not leave filled",
             out,
-        );
-    }
-    if f.number == ENTRY_MISSING {
-        return put_half(
+        ),
+        ENTRY_MISSING => put_half(
             b"has a note that names r",
             f,
             b", which the parcel does not say is filled before the start",
             out,
-        );
+        ),
+        _ => put_text(
+            b"is no legal instruction, so the program was not judged",
+            out,
+        ),
     }
-    put_text(
-        b"is no legal instruction, so the program was not judged",
-        out,
-    )
 }
 
 // The line below that instruction.
@@ -102,7 +97,7 @@ pub fn put_fault(v: Verdict, out: &mut [u8]) -> usize
     }
 }
 
-// The index of that instruction.
+// The index of that instruction; 0 where the verdict is not a refusal, as in the definition. A caller puts no line there then.
 pub fn fault_index(v: Verdict) -> usize
     ensures { result ≡ fault_index (verdict_outcome v) }
 {
@@ -122,23 +117,18 @@ fn put_instruction_at(f: Finding, out: &mut [u8]) -> usize
 }
 
 // What a refusal is about.
+#[tactic(auto, unfolding(crate::specs::Words::refusal_text, rows::specs::Names::ascii))]
 fn put_refusal(f: Finding, out: &mut [u8]) -> usize
     requires { longest_refusal ≤ length out.old }
     ensures { Put (refusal_text f) out.old out.new result × (result ≤ longest_refusal) }
 {
-    if f.number == WRONG_MARK {
-        return put_text(b"this is no parcel, since it does not begin with VSP", out);
+    match f.number {
+        WRONG_MARK => put_text(b"this is no parcel, since it does not begin with VSP", out),
+        WRONG_VERSION => put_text(b"the version of the parcel is neither 1 nor 2", out),
+        WRONG_LENGTH => put_text(b"the count of instructions or the length is wrong", out),
+        WRONG_ZERO => put_text(b"byte 5 of the parcel is not 0", out),
+        _ => put_instruction_at(f, out),
     }
-    if f.number == WRONG_VERSION {
-        return put_text(b"the version of the parcel is neither 1 nor 2", out);
-    }
-    if f.number == WRONG_LENGTH {
-        return put_text(b"the count of instructions or the length is wrong", out);
-    }
-    if f.number == WRONG_ZERO {
-        return put_text(b"byte 5 of the parcel is not 0", out);
-    }
-    put_instruction_at(f, out)
 }
 
 fn put_refused(f: Finding, out: &mut [u8]) -> usize

@@ -11,8 +11,8 @@ use disasm::put_instruction;
 use flow::branch_target;
 use lacks::put_stray;
 use leftout::put_left_out;
-
 use reader::read_number;
+use reasons::Reason;
 use record::answer::Refusal;
 use record::instruction::Instruction;
 use text::put::{put_digits, put_enclosed, put_labelled, put_text};
@@ -23,15 +23,15 @@ pub const LONGEST: usize = disasm::LONGEST + ARROW;
 const ARROW: usize = 11;
 
 // The numbers of the refusals, by reason.
-const NO_ROW: u8 = 2;
+const NO_ROW: u8 = Reason::NoRow as u8;
 
-const STRAY_BIT: u8 = 3;
+const STRAY_BIT: u8 = Reason::StrayBit as u8;
 
-const RESERVED_FLOW: u8 = 4;
+const RESERVED_FLOW: u8 = Reason::ReservedFlow as u8;
 
-const NO_HALF: u8 = 5;
+const NO_HALF: u8 = Reason::NoHalf as u8;
 
-const MODIFIER: u8 = 6;
+const MODIFIER: u8 = Reason::IllegalModifier as u8;
 
 // Whether an instruction is a branch that can be taken.
 pub fn jumps(x: Instruction) -> bool
@@ -40,7 +40,7 @@ pub fn jumps(x: Instruction) -> bool
     x.branches() && !x.ends()
 }
 
-// Where instruction i of n branches to, or n.
+// Where instruction i of n branches to; n where that is outside, as in the rules and in `flow::branch_target`.
 pub fn lands(n: usize, i: usize, x: Instruction) -> usize
     ensures { result ≡ lands n i x }
 {
@@ -95,26 +95,19 @@ fn put_no_row(w: u64, out: &mut [u8]) -> usize
 }
 
 // Why a word is refused with a number at a place.
+#[tactic(auto, unfolding(crate::specs::Columns::reason_text, rows::specs::Names::ascii))]
 fn put_reason(w: u64, number: u8, place: u8, out: &mut [u8]) -> usize
     requires { longest_reason ≤ length out.old }
     ensures { Put (reason_text w number place) out.old out.new result × (result ≤ longest_reason) }
 {
-    if number == NO_ROW {
-        return put_no_row(w, out);
+    match number {
+        NO_ROW => put_no_row(w, out),
+        STRAY_BIT => put_stray(w, place, out),
+        RESERVED_FLOW => put_text(b"its flow is reserved", out),
+        NO_HALF => put_text(b"neither half of its destination is written", out),
+        MODIFIER => put_labelled(b"illegal modifier at bit ", place as u64, 10, 3, out),
+        _ => put_enclosed(b"source ", place as u64, 3, b" is a reserved constant", out),
     }
-    if number == STRAY_BIT {
-        return put_stray(w, place, out);
-    }
-    if number == RESERVED_FLOW {
-        return put_text(b"its flow is reserved", out);
-    }
-    if number == NO_HALF {
-        return put_text(b"neither half of its destination is written", out);
-    }
-    if number == MODIFIER {
-        return put_labelled(b"illegal modifier at bit ", place as u64, 10, 3, out);
-    }
-    put_enclosed(b"source ", place as u64, 3, b" is a reserved constant", out)
 }
 
 fn put_refused(n: usize, i: usize, w: u64, f: Refusal, out: &mut [u8]) -> usize
@@ -138,8 +131,7 @@ pub fn put_column(n: usize, i: usize, w: u64, out: &mut [u8]) -> usize
     requires { longest_column ≤ length out.old }
     ensures { Put (column_of n i w) out.old out.new result × (result ≤ longest_column) }
 {
-    let r = read_number(w);
-    match r {
+    match read_number(w) {
         Ok(x) => put_read(n, i, w, x, out),
         Err(f) => put_refused(n, i, w, f, out),
     }

@@ -1,12 +1,9 @@
 use mathlib.Core.Path.{◌≡◌}
-use Prim.Native.Nat.{◌*◌, ◌-◌, ◌≤◌}
+use Prim.Native.Nat.{◌*◌, ◌≤◌}
 use lib.ListN.{length}
 use Rattle.text.specs.Text.{Put}
 use Rattle.registertext.specs.Registers.{members_text}
 use Rattle.registertext.proofs.put_registers.Given as goal
 
 abbrev pub invariant-loop-r : goal.invariant-loop-r
-invariant-loop-r l = (l.r ≤ 64) × (l.at ≤ 5 * l.r) × (length l.out ≡ length l.initial.out) × Put (members_text l.s l.r) l.initial.out l.out l.at
-
-abbrev pub decreases-loop-r : goal.decreases-loop-r
-decreases-loop-r l = 64 - l.r
+invariant-loop-r l = (l.at ≤ 5 * l.r) × (length l.out ≡ length l.initial.out) × Put (members_text l.s l.r) l.initial.out l.out l.at

@@ -6,9 +6,9 @@ use Rattle.show.proofs.put_shown.Goals as goal
 pub returns-in-Ok : goal.returns-in-Ok
 returns-in-Ok c =
     let s = c.args.bytes.now in
-    same_text (shown_opened s (opened_by c.open-o.ensures c.in-Ok.is) c.verify-v.ensures.verdict) c.put_opened.ensures
+    same_text (shown_opened s (opened_by c.open.ensures c.in-Ok.is) c.verify-v.ensures.verdict) c.put_opened.ensures
 
 pub returns-in-Err : goal.returns-in-Err
 returns-in-Err c =
     let s = c.args.bytes.now in
-    same_text (shown_refused s (refused_by c.open-o.ensures c.in-Err.is) c.verify-v.ensures.verdict) c.put_verdict.ensures.0
+    same_text (shown_refused s (refused_by c.open.ensures c.in-Err.is) c.verify-v.ensures.verdict) c.put_verdict.ensures.0

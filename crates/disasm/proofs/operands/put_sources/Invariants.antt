@@ -1,5 +1,5 @@
 use mathlib.Core.Path.{◌≡◌}
-use Prim.Native.Nat.{◌+◌, ◌*◌, ◌-◌, ◌≤◌}
+use Prim.Native.Nat.{◌+◌, ◌*◌, ◌≤◌}
 use lib.ListN.{length}
 use Rattle.text.specs.Text.{Put}
 use Rattle.sourcetext.specs.SourceText.{longest_source}
@@ -7,10 +7,6 @@ use Rattle.disasm.specs.Served.Places.{coded_sources}
 use Rattle.disasm.proofs.operands.put_sources.Given as goal
 
 abbrev pub invariant-loop-k : goal.invariant-loop-k
-invariant-loop-k l = (l.k ≤ l.n)
-    × (l.at ≤ (2 + longest_source) * l.k)
+invariant-loop-k l = (l.at ≤ (2 + longest_source) * l.k)
     × (length l.out ≡ length l.initial.out)
     × Put (coded_sources l.kinds l.values l.page l.bytes l.first l.k) l.initial.out l.out l.at
-
-abbrev pub decreases-loop-k : goal.decreases-loop-k
-decreases-loop-k l = l.n - l.k

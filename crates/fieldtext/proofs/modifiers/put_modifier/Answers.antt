@@ -1,3 +1,4 @@
+use mathlib.Core.Logic.{inl, inr}
 use native.Mathlib.Omega.{arith}
 use Rattle.text.proofs.TextLaws.{same_text}
 use Rattle.fieldtext.proofs.ModifierLaws.{no_place, too_low, too_high, of_these}
@@ -9,11 +10,13 @@ returns-then-at-ge-MODIFIERS c =
 
 pub returns-then-kind-first : goal.returns-then-kind-first
 returns-then-kind-first c =
-    (too_low c.args.first c.args.last c.args.kinds.now c.args.values.now c.args.place c.args.out.now c.if-kind-first.true, omega arith)
-
-pub returns-then-last-kind : goal.returns-then-last-kind
-returns-then-last-kind c =
-    (too_high c.args.first c.args.last c.args.kinds.now c.args.values.now c.args.place c.args.out.now c.if-last-kind.true, omega arith)
+    let a = c.args in (
+      elim c.then-kind-first.either [
+        | inl h ↦ too_low a.first a.last a.kinds.now a.values.now a.place a.out.now h
+        | inr h ↦ too_high a.first a.last a.kinds.now a.values.now a.place a.out.now h.1
+      ],
+      omega arith,
+    )
 
 pub returns : goal.returns
 returns c =

@@ -1,4 +1,7 @@
-use mathlib.Core.Path.{sym}
+use mathlib.Core.Path.{◌≡◌, sym}
+use Rattle.rows.specs.Sources.{special_at}
+use Rattle.fieldtext.specs.Enumerations.{special_text}
+use mathlib.Core.Logic.{inl, inr}
 use native.Mathlib.Omega.{arith}
 use Rattle.rows.specs.Names.{ascii}
 use Rattle.text.proofs.TextLaws.{same_text}
@@ -10,14 +13,11 @@ unfolding ascii
 returns-then-p-ge-PAGES c =
     let a = c.args in
     let p = c.put_text.ensures in
-    (same_text (sym (no_page a.page a.i c.if-p-ge-PAGES.true)) p, omega (arith, p.counts))
-
-pub returns-then-k-ge-SPECIALS : goal.returns-then-k-ge-SPECIALS
-unfolding ascii
-returns-then-k-ge-SPECIALS c =
-    let a = c.args in
-    let p = c.put_text-then-k-ge-SPECIALS.ensures in
-    (same_text (sym (no_special a.page a.i c.if-p-ge-PAGES.false c.if-k-ge-SPECIALS.true)) p, omega (arith, p.counts))
+    let e : special_text (special_at a.page a.i) ≡ ascii "?" = elim c.then-p-ge-PAGES.either [
+      | inl h ↦ no_page a.page a.i h
+      | inr h ↦ no_special a.page a.i (omega arith) h.1
+    ] in
+    (same_text (sym e) p, omega (arith, p.counts))
 
 pub returns : goal.returns
 returns c =

@@ -12,7 +12,7 @@ use Rattle.listing.proofs.line.put_lines.Goals as goal
 
 pub loop-i-init : goal.loop-i-init
 unfolding lines
-loop-i-init c = (omega arith, omega arith, refl, record { counts = refl; fills = refl })
+loop-i-init c = (omega arith, refl, record { counts = refl; fills = refl })
 
 pub put_word-at-requires : goal.put_word-at-requires
 put_word-at-requires c =
@@ -23,7 +23,7 @@ pub loop-i-preserved : goal.loop-i-preserved
 unfolding lines
 loop-i-preserved c =
     let l = c.loop-i in
-    (omega arith, omega arith, omega arith, rw (add-one l.i) (put_next l.invariant.3 c.put_word-at.ensures.0))
+    (omega arith, omega arith, rw (add-one l.i) (put_next l.invariant.2 c.put_word-at.ensures.0))
 
 pub returns : goal.returns
 returns c =
@@ -31,4 +31,4 @@ returns c =
     let l = c.loop-i in
     let o = opened_count _ c.requires.0 in
     let e : l.i ≡ count_of a.bytes.now = omega arith in
-    (subst (λ (i : ℕ). Put (lines (words_of a.bytes.now) i) a.out.now l.out l.at) e l.invariant.3, omega arith)
+    (subst (λ (i : ℕ). Put (lines (words_of a.bytes.now) i) a.out.now l.out l.at) e l.invariant.2, omega arith)

@@ -9,12 +9,12 @@ use Rattle.showlines.proofs.LineLaws.{title_width, one_wider}
 use Rattle.showlines.proofs.line.widest.Goals as goal
 
 pub loop-i-init : goal.loop-i-init
-loop-i-init c = (omega arith, title_width c.args.words.now c.args.n, omega arith, refl)
+loop-i-init c = (title_width c.args.words.now c.args.n, omega arith, refl)
 
 pub loop-i-preserved : goal.loop-i-preserved
 loop-i-preserved c =
     let a = c.args in
     let l = c.loop-i in
-    let p = c.put_column-k.ensures in
+    let p = c.put_column.ensures in
     let e = p.0.counts ∙ ap (λ (w : ℕ). length (column_of a.n l.i w)) c.number_at.ensures in
-    (omega arith, c.larger-most.ensures ∙ one_wider a.words.now a.n l.i l.invariant.1 e, rw c.larger-most.ensures (max-le l.invariant.2 p.1), length_put p.0 (omega (arith, p.1, l.invariant.3)) ∙ l.invariant.3)
+    (c.max-most.ensures ∙ one_wider a.words.now a.n l.i l.invariant.0 e, rw c.max-most.ensures (max-le l.invariant.1 p.1), length_put p.0 (omega (arith, p.1, l.invariant.2)) ∙ l.invariant.2)

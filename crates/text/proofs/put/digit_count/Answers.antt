@@ -9,18 +9,18 @@ returns-then-rest-base c =
     let a = c.args in
     let l = c.loop-k in
     let e = last_digit a.base a.most l.k l.rest (omega arith) c.if-rest-base.true in
-    (omega (arith, e, l.invariant.1), omega arith)
+    (omega (arith, e, l.invariant), omega arith)
 
 pub loop-k-preserved : goal.loop-k-preserved
 loop-k-preserved c =
     let a = c.args in
     let l = c.loop-k in
     let e = one_more a.base a.most l.k l.rest (omega arith) c.if-rest-base.false in
-    (omega arith, rw (add-one l.k) (omega (arith, e, l.invariant.1)))
+    rw (add-one l.k) (omega (arith, e, l.invariant))
 
 pub returns : goal.returns
 returns c =
     let a = c.args in
     let l = c.loop-k in
     let e = no_more a.base l.rest {k = a.most - l.k} (omega arith) in
-    (omega (arith, e, l.invariant.1), omega arith)
+    (omega (arith, e, l.invariant), omega arith)

@@ -13,12 +13,11 @@ loop-i-preserved c =
     let base = c.args.base in
     let j = l.i - 1 in
     let e : suc j ≡ l.i = omega arith in (
-      omega arith,
-      simp length-set l.invariant.1,
+      simp length-set l.invariant.0,
       ap (λ (d : ℕ). digits base j (l.rest / base) ++ drop j (set l.out j d)) c.digit.ensures
           ∙ digit_before base j l.rest l.out (omega arith)
           ∙ ap (λ (k : ℕ). digits base k l.rest ++ drop k l.out) e
-          ∙ l.invariant.2,
+          ∙ l.invariant.1,
     )
 
 pub returns : goal.returns
@@ -29,7 +28,7 @@ returns c =
     let e : l.i ≡ 0 = omega arith in (
       record {
         counts = sym (length_digits a.base a.k a.n);
-        fills = rw (length_digits a.base a.k a.n) (sym (ap (λ (i : ℕ). digits a.base i l.rest ++ drop i l.out) e) ∙ l.invariant.2);
+        fills = rw (length_digits a.base a.k a.n) (sym (ap (λ (i : ℕ). digits a.base i l.rest ++ drop i l.out) e) ∙ l.invariant.1);
       },
       refl,
     )

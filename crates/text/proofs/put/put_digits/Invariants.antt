@@ -1,12 +1,8 @@
 use mathlib.Core.Path.{◌≡◌}
 use mathlib.Core.List.{◌++◌}
-use Prim.Native.Nat.{◌≤◌}
 use lib.ListN.{length, drop}
 use Rattle.text.specs.Text.{digits}
 use Rattle.text.proofs.put.put_digits.Given as goal
 
 abbrev pub invariant-loop-i : goal.invariant-loop-i
-invariant-loop-i l = (l.i ≤ l.k) × (length l.out ≡ length l.initial.out) × (digits l.base l.i l.rest ++ drop l.i l.out ≡ digits l.base l.k l.n ++ drop l.k l.initial.out)
-
-abbrev pub decreases-loop-i : goal.decreases-loop-i
-decreases-loop-i l = l.i
+invariant-loop-i l = (length l.out ≡ length l.initial.out) × (digits l.base l.i l.rest ++ drop l.i l.out ≡ digits l.base l.k l.n ++ drop l.k l.initial.out)
