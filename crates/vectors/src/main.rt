@@ -323,7 +323,7 @@ fn row_default(output: &impl Print, row: usize) {
     say_name(output, row);
     text(output, b" ");
     let mut buffer = [0u8; 8];
-    write_word(fresh(row), &mut buffer);
+    let _ = write_word(fresh(row), &mut buffer);
     print!(output; "{:016x}", bits::bytes::load64(&buffer)).is_ok();
     text(output, b" ");
     let r = read_word(&buffer);
@@ -337,7 +337,7 @@ fn row_default(output: &impl Print, row: usize) {
 // Whether a record that was read is written as the same word.
 fn say_again(output: &impl Print, i: Instruction, word: [u8; 8]) {
     let mut again = [0u8; 8];
-    write_word(i, &mut again);
+    let _ = write_word(i, &mut again);
     if bits::bytes::load64(&again) == bits::bytes::load64(&word) {
         text(output, b"again");
     } else {
