@@ -3,59 +3,36 @@
 #![tactic(auto)]
 
 use opcoderows::row_with;
-
-fn text(output: &impl Print, s: &[u8]) {
-    output.write_all(s).is_ok();
-}
-
-fn number(output: &impl Print, n: u64) {
-    output.print(n).is_ok();
-}
+use std::io;
 
 // The k-th row of an opcode, where there is one.
-fn say_row(output: &impl Print, opcode: u64, k: u64) {
-    match row_with(opcode, k) {
-        Some(row) => {
-            text(output, b" ");
-            number(output, k);
-            text(output, b":");
-            number(output, row as u64);
-        }
-        None => {}
+fn say_row(output: &impl Print, opcode: u64, k: u64) -> io::Result<()> {
+    if let Some(row) = row_with(opcode, k) {
+        print!(output; " {k}:{row}")?;
     }
+    Ok(())
 }
 
-// The rows of an opcode, for all k to 30.
-fn say_rows(output: &impl Print, opcode: u64) {
-    let mut k = 0;
-    while k < 31 {
-        say_row(output, opcode, k);
-        k += 1;
+// The rows of an opcode, for all k to 30 and for k that are large.
+fn say_opcode(output: &impl Print, opcode: u64) -> io::Result<()> {
+    print!(output; "opcode {opcode}:")?;
+    for k in 0..31 {
+        say_row(output, opcode, k)?;
     }
+    say_row(output, opcode, 1 << 32)?;
+    say_row(output, opcode, u64::MAX)?;
+    println!(output)
 }
 
-// The same, and for k that are large.
-fn say_opcode(output: &impl Print, opcode: u64) {
-    text(output, b"opcode ");
-    number(output, opcode);
-    text(output, b":");
-    say_rows(output, opcode);
-    say_row(output, opcode, 4294967296);
-    say_row(output, opcode, 18446744073709551615);
-    text(output, b"\n");
-}
-
-fn say_opcodes(output: &impl Print) {
-    let mut opcode = 0;
-    while opcode < 1024 {
-        say_opcode(output, opcode);
-        opcode += 1;
+fn say_opcodes(output: &impl Print) -> io::Result<()> {
+    for opcode in 0..1024 {
+        say_opcode(output, opcode)?;
     }
+    say_opcode(output, (1 << 32) + 144)?;
+    say_opcode(output, u64::MAX)
 }
 
 fn main(rt: HostRuntime) {
-    let output = rt.stdout();
-    say_opcodes(&output);
-    say_opcode(&output, 4294967440);
-    say_opcode(&output, 18446744073709551615);
+    // The status is 0 also where the output cannot be written.
+    let _ = say_opcodes(&rt.stdout());
 }

@@ -4,123 +4,96 @@
 
 ghost use Rattle.std.specs.Prelude.{◌≡◌, ◌<◌, length};
 
-use bits::bytes::{load64, wide};
+use bits::bytes::load64;
 use bits::halves::{Halves, both};
 use container::header::open;
 use container::parts::annotations;
 use packing::pack;
 use reasons::Reason;
+use std::io;
 use view::{open_count, word_in, word_of};
 
-fn text(output: &impl Print, s: &[u8]) {
-    output.write_all(s).is_ok();
-}
+// MOV.i32 r1, r2 and NOP with end; r2 and r40 are filled before them.
+const GOOD: [u8; 48] = *b"VSP\x01\x00\x00\x02\x00\x04\x00\x00\x00\x00\x01\x00\x00\x02\x00\x00\x00\x00\xC1\x91\x00\x00\x00\x00\x00\x00\x00\x00\x78\x04\x00\x00\x00\x00\x00\x00\x00\x06\x00\x00\x00\x00\x01\x00\x00";
 
-fn number(output: &impl Print, n: u64) {
-    output.print(n).is_ok();
-}
+// The same in version 2, where r1 is half filled before them, by the low half, and r40 by the high one.
+const HALVED: [u8; 72] = *b"VSP\x02\x00\x00\x02\x00\x06\x00\x00\x00\x00\x00\x00\x00\x04\x00\x00\x00\x00\x01\x00\x00\x02\x00\x00\x00\x00\xC1\x91\x00\x00\x00\x00\x00\x00\x00\x00\x78\x06\x00\x00\x00\x00\x00\x00\x00\x04\x00\x00\x00\x00\x00\x00\x00\x06\x00\x00\x00\x00\x00\x00\x00\x06\x00\x00\x00\x00\x01\x00\x00";
 
-fn word(output: &impl Print, w: u64) {
-    print!(output; "{:016x}", w).is_ok();
-}
-
-// The entry set; of version 2 that of the low halves and that of the high ones.
-fn say_entry(output: &impl Print, version: u64, entry: Halves) {
-    text(output, b" ");
-    word(output, entry.low);
-    if version == 2 {
-        text(output, b" ");
-        word(output, entry.high);
-    }
-}
-
-fn say_opening(output: &impl Print, bytes: &[u8]) {
+// How many instructions there are, and the entry set; of version 2 that of the low halves and that of the high ones.
+fn say_opening(output: &impl Print, bytes: &[u8]) -> io::Result<()> {
     match open(bytes) {
         Ok(header) => {
-            text(output, b"opened ");
-            number(output, header.count as u64);
-            let entry = header.entry;
-            say_entry(output, header.version, entry);
+            let count = header.count;
+            let Halves { low, high } = header.entry;
+            print!(output; "opened {count} {low:016x}")?;
+            if header.version == 2 {
+                print!(output; " {high:016x}")?;
+            }
+            println!(output)
         }
-        Err(n) => {
-            text(output, b"refused ");
-            number(output, n as u64);
-        }
+        Err(reason) => println!(output; "refused {}", reason.number()),
     }
-    text(output, b"\n");
 }
 
 // How many bytes there are, and each in two digits.
-fn say_bytes(output: &impl Print, bytes: &[u8]) {
-    number(output, bytes.len() as u64);
-    let mut i = 0;
-    while i < bytes.len() {
-        text(output, b" ");
-        print!(output; "{:02x}", wide(bytes[i])).is_ok();
-        i += 1;
+fn say_bytes(output: &impl Print, bytes: &[u8]) -> io::Result<()> {
+    print!(output; "{}", bytes.len())?;
+    for byte in bytes {
+        print!(output; " {byte:02x}")?;
     }
-    text(output, b"\n");
+    println!(output)
 }
 
-// The bytes of the notes' part.
-fn say_notes(output: &impl Print, bytes: &[u8]) {
-    text(output, b"  notes ");
-    say_bytes(output, annotations(bytes));
-}
-
-fn say_fetched(output: &impl Print, f: Result<u64, Reason>) {
-    match f {
-        Ok(w) => word(output, w),
-        Err(n) => {
-            text(output, b"refused ");
-            number(output, n as u64);
-        }
+fn say_fetched(output: &impl Print, fetched: Result<u64, Reason>) -> io::Result<()> {
+    match fetched {
+        Ok(word) => println!(output; "{word:016x}"),
+        Err(reason) => println!(output; "refused {}", reason.number()),
     }
-    text(output, b"\n");
 }
 
 // The word at an index of a parcel.
-fn asks(output: &impl Print, bytes: &[u8], i: usize) {
-    text(output, b"  word ");
-    number(output, i as u64);
-    text(output, b" ");
-    say_fetched(output, word_of(bytes, i));
+fn asks(output: &impl Print, bytes: &[u8], i: usize) -> io::Result<()> {
+    print!(output; "  word {i} ")?;
+    say_fetched(output, word_of(bytes, i))
 }
 
 // The word at an index of a parcel that is said to have n instructions.
-fn asks_of(output: &impl Print, bytes: &[u8], n: usize, i: usize) {
-    text(output, b"  of ");
-    number(output, n as u64);
-    text(output, b", word ");
-    number(output, i as u64);
-    text(output, b" ");
-    say_fetched(output, word_in(bytes, n, i));
+fn asks_of(output: &impl Print, bytes: &[u8], n: usize, i: usize) -> io::Result<()> {
+    print!(output; "  of {n}, word {i} ")?;
+    say_fetched(output, word_in(bytes, n, i))
 }
 
-// The words at 0, at the last index and after it, and at the largest number.
-fn says(output: &impl Print, bytes: &[u8]) {
-    say_opening(output, bytes);
-    say_notes(output, bytes);
+// The bytes of the notes' part, and the words at 0, at the last index and after it, and at the largest number.
+fn says(output: &impl Print, bytes: &[u8]) -> io::Result<()> {
+    say_opening(output, bytes)?;
+    print!(output; "  notes ")?;
+    say_bytes(output, annotations(bytes))?;
     let n = open_count(bytes);
-    asks(output, bytes, 0);
+    asks(output, bytes, 0)?;
     if 0 < n {
-        asks(output, bytes, n - 1);
+        asks(output, bytes, n - 1)?;
     }
-    asks(output, bytes, n);
-    asks(output, bytes, usize::MAX);
+    asks(output, bytes, n)?;
+    asks(output, bytes, usize::MAX)
 }
 
 // With a count that is made up: more than there are, none, and the largest number.
-fn makes_up(output: &impl Print, bytes: &[u8]) {
-    asks_of(output, bytes, 0, 0);
-    asks_of(output, bytes, 1, 0);
-    asks_of(output, bytes, 5, 2);
-    asks_of(output, bytes, 5, 3);
-    asks_of(output, bytes, 5, 4);
-    asks_of(output, bytes, usize::MAX, 4);
-    asks_of(output, bytes, usize::MAX, 2305843009213693952);
-    asks_of(output, bytes, usize::MAX, usize::MAX - 1);
-    asks_of(output, bytes, usize::MAX, usize::MAX);
+fn makes_up(output: &impl Print, bytes: &[u8]) -> io::Result<()> {
+    let asked = [
+        (0, 0),
+        (1, 0),
+        (5, 2),
+        (5, 3),
+        (5, 4),
+        (usize::MAX, 4),
+        (usize::MAX, 1 << 61),
+        (usize::MAX, usize::MAX - 1),
+        (usize::MAX, usize::MAX),
+    ];
+    for (n, i) in asked {
+        asks_of(output, bytes, n, i)?;
+    }
+    Ok(())
 }
 
 // Packs a parcel into a buffer; then the buffer's bytes.
@@ -131,16 +104,13 @@ fn packs(
     words: &[u8],
     notes: &[u8],
     out: &mut [u8],
-) {
+) -> io::Result<()> {
     match pack(version, entry, words, notes, out) {
-        Ok(()) => text(output, b"packed"),
-        Err(n) => {
-            text(output, b"refused ");
-            number(output, n as u64);
-        }
+        Ok(()) => println!(output; "packed")?,
+        Err(reason) => println!(output; "refused {}", reason.number())?,
     }
-    text(output, b"\n  buffer ");
-    say_bytes(output, out);
+    print!(output; "  buffer ")?;
+    say_bytes(output, out)
 }
 
 // Packs the parts of a parcel of two instructions, after a part or the buffer had a wrong length. The middle of the notes is where half of
@@ -152,92 +122,66 @@ fn packs_parts(
     words: &[u8],
     notes: &[u8],
     out: &mut [u8],
-)
+) -> io::Result<()>
     requires { (length words.now ≡ 16) × (0 < length out.old) }
 {
     let half = notes.len() / 2;
     let less = out.len() - 1;
-    packs(output, version, entry, &words[..15], notes, out);
-    packs(output, version, entry, words, &notes[..half], out);
-    packs(output, version, entry, words, notes, &mut out[..less]);
-    packs(output, version, entry, words, notes, out);
+    packs(output, version, entry, &words[..15], notes, out)?;
+    packs(output, version, entry, words, &notes[..half], out)?;
+    packs(output, version, entry, words, notes, &mut out[..less])?;
+    packs(output, version, entry, words, notes, out)
 }
 
 // Takes a parcel of version 1 and one of version 2 apart, and packs it again.
-fn packs_first(output: &impl Print, bytes: &[u8], out: &mut [u8])
-    requires { (length bytes.now ≡ 48) × (length out.old ≡ 48) }
-{
-    let entry = both(load64(&bytes[8..16]));
-    packs_parts(output, 1, entry, &bytes[16..32], &bytes[32..48], out);
+fn packs_first(output: &impl Print, parcel: &[u8; 48]) -> io::Result<()> {
+    let entry = both(load64(&parcel[8..16]));
+    let mut out = [255; 48];
+    packs_parts(output, 1, entry, &parcel[16..32], &parcel[32..], &mut out)
 }
 
-fn packs_second(output: &impl Print, bytes: &[u8], out: &mut [u8])
-    requires { (length bytes.now ≡ 72) × (length out.old ≡ 72) }
-{
-    let low = load64(&bytes[8..16]);
-    let high = load64(&bytes[16..24]);
-    packs_parts(
-        output,
-        2,
-        Halves { low, high },
-        &bytes[24..40],
-        &bytes[40..72],
-        out,
-    );
+fn packs_second(output: &impl Print, parcel: &[u8; 72]) -> io::Result<()> {
+    let low = load64(&parcel[8..16]);
+    let high = load64(&parcel[16..24]);
+    let entry = Halves { low, high };
+    let mut out = [255; 72];
+    packs_parts(output, 2, entry, &parcel[24..40], &parcel[40..], &mut out)
 }
 
-// MOV.i32 r1, r2 and NOP with end; r2 and r40 are filled before them.
-fn good() -> [u8; 48]
-    ensures { 48 ≡ length result }
-{
-    *b"VSP\x01\x00\x00\x02\x00\x04\x00\x00\x00\x00\x01\x00\x00\x02\x00\x00\x00\x00\xC1\x91\x00\x00\x00\x00\x00\x00\x00\x00\x78\x04\x00\x00\x00\x00\x00\x00\x00\x06\x00\x00\x00\x00\x01\x00\x00"
-}
-
-// The same in version 2, where r1 is half filled before them, by the low half, and r40 by the high one.
-fn halved() -> [u8; 72]
-    ensures { 72 ≡ length result }
-{
-    *b"VSP\x02\x00\x00\x02\x00\x06\x00\x00\x00\x00\x00\x00\x00\x04\x00\x00\x00\x00\x01\x00\x00\x02\x00\x00\x00\x00\xC1\x91\x00\x00\x00\x00\x00\x00\x00\x00\x78\x06\x00\x00\x00\x00\x00\x00\x00\x04\x00\x00\x00\x00\x00\x00\x00\x06\x00\x00\x00\x00\x00\x00\x00\x06\x00\x00\x00\x00\x01\x00\x00"
-}
-
-fn first_version(output: &impl Print) {
-    let mut parcel = good();
-    says(output, &parcel);
-    makes_up(output, &parcel);
-    says(output, &parcel[..47]);
-    says(output, &parcel[..15]);
-    makes_up(output, &parcel[..23]);
-    makes_up(output, &parcel[..0]);
-    let mut out = [255u8; 48];
-    packs_first(output, &parcel, &mut out);
+fn first_version(output: &impl Print) -> io::Result<()> {
+    let mut parcel = GOOD;
+    says(output, &parcel)?;
+    makes_up(output, &parcel)?;
+    says(output, &parcel[..47])?;
+    says(output, &parcel[..15])?;
+    makes_up(output, &parcel[..23])?;
+    makes_up(output, &parcel[..0])?;
+    packs_first(output, &parcel)?;
     parcel[5] = 1;
-    says(output, &parcel);
+    says(output, &parcel)
 }
 
-// A parcel of a version that there is not.
-fn unknown(output: &impl Print, bytes: &[u8]) {
-    says(output, bytes);
-    if 56 <= bytes.len() {
-        makes_up(output, &bytes[..56]);
-    }
-}
-
-fn second_version(output: &impl Print) {
-    let mut parcel = halved();
-    says(output, &parcel);
-    makes_up(output, &parcel[..56]);
-    says(output, &parcel[..71]);
-    says(output, &parcel[..48]);
-    says(output, &parcel[..23]);
-    makes_up(output, &parcel[..31]);
-    let mut out = [255u8; 72];
-    packs_second(output, &parcel, &mut out);
+// In the end of a version that there is not.
+fn second_version(output: &impl Print) -> io::Result<()> {
+    let mut parcel = HALVED;
+    says(output, &parcel)?;
+    makes_up(output, &parcel[..56])?;
+    says(output, &parcel[..71])?;
+    says(output, &parcel[..48])?;
+    says(output, &parcel[..23])?;
+    makes_up(output, &parcel[..31])?;
+    packs_second(output, &parcel)?;
     parcel[3] = 3;
-    unknown(output, &parcel);
+    says(output, &parcel)?;
+    makes_up(output, &parcel[..56])
+}
+
+fn examples(output: &impl Print) -> io::Result<()> {
+    first_version(output)?;
+    second_version(output)
 }
 
 fn main(rt: HostRuntime) {
-    let output = rt.stdout();
-    first_version(&output);
-    second_version(&output);
+    // The status is 0 also where the output cannot be written.
+    let _ = examples(&rt.stdout());
 }
