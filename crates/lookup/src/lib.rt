@@ -50,7 +50,7 @@ fn line_with(row: u64, v: table::Row) -> Line
     }
 }
 
-// A group from its numbers.
+// A group from its numbers, so that each arm below stands on one line.
 fn grouped(low: u64, mask: u64, seconds: u64, cell: u64) -> Group
     ensures { result ≡ group low mask seconds cell }
 {

@@ -23,7 +23,8 @@ pub struct Run {
     pub count: u64,
 }
 
-// A block and a run from their numbers.
+// A block and a run from their numbers, so that each arm below stands on one line. The arms are a `match`, which compiles to constant data; a
+// constant array that is indexed at run time is stored anew at every call.
 fn block_with(steps: u64, first: u64) -> Block
     ensures { result ≡ block steps first }
 {
