@@ -8,7 +8,6 @@ ghost use Rattle.writing.specs.Writer.{write, stored};
 ghost use Rattle.writer.specs.Answers.{writing};
 ghost use Rattle.codec.specs.Demand2.{ReadAsAsked, WrittenAsAsked};
 
-
 use reader::read_bytes;
 use record::answer::Refusal;
 use record::instruction::Instruction;

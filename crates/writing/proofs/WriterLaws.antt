@@ -1,89 +1,23 @@
--- When two records are equal, and what the writer answers by what it finds. Assumes nothing.
-use mathlib.Core.Path.{◌≡◌, refl, sym, ap, ◌∙◌}
+-- What the writer answers by what it finds. Assumes nothing.
+use mathlib.Core.Path.{◌≡◌, sym, ap, ◌∙◌}
 use mathlib.Core.Bool.{Bool, true, false}
 use mathlib.Core.List.{List}
 use mathlib.Core.Logic.{⊎_elim}
-use Prim.Native.Nat.{ℕ, ◌+◌, ◌<◌, ◌≤◌}
-use native.Mathlib.Nat.{le_of_eq}
-use native.Mathlib.Numerals.{add-one}
-use mir.Syntax.{w32}
-use mir.Val.{SFits, to_z, of_z}
-use mir.ValLaws.{to_z-of_z}
-use lib.Dec.{eqb}
-use lib.IntN.{ℤ}
-use lib.ListN.{length, get_or, drop, drop_of_length-le}
-use lib.Seq.{drop-cons}
-use borrow.Author.Tests.{eq-eqb, ne_eqb, eqb-true, eqb-false, lt-ltb, le-ltb}
+use Prim.Native.Nat.{ℕ, ◌<◌, ◌≤◌}
+use lib.ListN.{length}
+use borrow.Author.Tests.{eq-eqb, ne_eqb, lt-ltb, le-ltb}
 use Rattle.bits.specs.Bytes.{little_bytes}
 use Rattle.bits.specs.Outcomes.{Outcome, gives, refuses, passes, require, ◌then◌}
 use Rattle.bits.proofs.OutcomeLaws.{never, then_gives, then_refuses}
 use Rattle.rows.specs.Rows.{row_of, row_count}
-use Rattle.record.specs.Lists.{source_list, modifier_list}
 use Rattle.record.specs.Answers.{refusal}
 use Rattle.record.specs.Instructions.{word_of}
 use Rattle.record.specs.Legality.{judge, roomy, judge_instruction}
 use Rattle.record.specs.declared.instruction.Instruction.{Instruction}
 use Rattle.record.specs.declared.answer.Refusal.{Refusal}
 use Rattle.reading.specs.Reader.{read_number}
-use Rattle.writing.specs.Writer.{same_list, same_offset, heads, same, is_record, write, stored}
-use Rattle.writing.proofs.RoundTrip.{list_eq, offset_refl, offset_eq, judged_so, reads_as}
-
--- ---- two lists compared
-
-module _ (xs ys : List ℕ) (i : ℕ) (hx : i < length xs) (hy : i < length ys) where
-  pub same_hit : get_or xs i 0 ≡ get_or ys i 0 → same_list (drop (i + 1) xs) (drop (i + 1) ys) ≡ same_list (drop i xs) (drop i ys)
-  unfolding same_list
-  same_hit e = rw (drop-cons xs i 0 hx, drop-cons ys i 0 hy, eq-eqb _ _ e, add-one i)
-
-  pub same_miss : (get_or xs i 0 ≡ get_or ys i 0 → ⊥) → false ≡ same_list (drop i xs) (drop i ys)
-  unfolding same_list
-  same_miss n = rw (drop-cons xs i 0 hx, drop-cons ys i 0 hy, ne_eqb _ _ n)
-
-pub same_end : (xs ys : List ℕ) (i : ℕ) → length xs ≡ i → length ys ≡ i → true ≡ same_list (drop i xs) (drop i ys)
-unfolding same_list
-same_end xs ys i e f = rw (drop_of_length-le xs (le_of_eq e), drop_of_length-le ys (le_of_eq f))
-
-pub same_lengths : (xs ys : List ℕ) → (length xs ≡ length ys → ⊥) → false ≡ same_list xs ys
-unfolding same_list
-same_lengths xs ys n = go (same_list xs ys) refl
-  where
-    go : (t : Bool) → same_list xs ys ≡ t → false ≡ t
-    go true e = absurd (n (ap length (list_eq xs ys e)))
-    go false e = refl
-
--- ---- offsets are equal where their bits are
-
-pub offset_bits : (a b : ℤ) → SFits w32 a → SFits w32 b → eqb (of_z w32 a) (of_z w32 b) ≡ same_offset a b
-offset_bits a b fa fb = go (eqb (of_z w32 a) (of_z w32 b)) refl (same_offset a b) refl
-  where
-    go : (t : Bool) → eqb (of_z w32 a) (of_z w32 b) ≡ t → (u : Bool) → same_offset a b ≡ u → t ≡ u
-    go true e true f = refl
-    go false e false f = refl
-    go true e false f =
-        let q : a ≡ b = sym (to_z-of_z w32 a fa) ∙ ap (to_z w32) (eqb-true (of_z w32 a) (of_z w32 b) e) ∙ to_z-of_z w32 b fb in
-        sym (offset_refl a) ∙ ap (same_offset a) q ∙ f
-    go false e true f = absurd (eqb-false (of_z w32 a) (of_z w32 b) e (ap (of_z w32) (offset_eq a b f)))
-
--- ---- two records compared: heads, sources, modifiers, offset
-
-module _ (a b : Instruction) {t : Bool} (et : t ≡ same_list (heads a) (heads b)) where
-  pub other_heads : t ≡ false → false ≡ same a b
-  unfolding same
-  other_heads p = rw (← et, p)
-
-  module _ (p : t ≡ true) {u : Bool} (eu : u ≡ same_list (source_list a.sources) (source_list b.sources)) where
-    pub other_sources : u ≡ false → false ≡ same a b
-    unfolding same
-    other_sources q = rw (← et, p, ← eu, q)
-
-    module _ (q : u ≡ true) {v : Bool} (ev : v ≡ same_list (modifier_list a.modifiers) (modifier_list b.modifiers)) where
-      pub other_modifiers : v ≡ false → false ≡ same a b
-      unfolding same
-      other_modifiers r = rw (← et, p, ← eu, q, ← ev, r)
-
-      pub by_offset : v ≡ true → same_offset a.offset b.offset ≡ same a b
-      unfolding same
-      by_offset r = rw (← et, p, ← eu, q, ← ev, r)
+use Rattle.writing.specs.Writer.{is_record, write, stored}
+use Rattle.writing.proofs.RoundTrip.{judged_so, reads_as}
 
 -- ---- the writer's answers
 
