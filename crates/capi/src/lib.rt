@@ -34,7 +34,6 @@ use reasons::Reason;
 use record::instruction::Instruction;
 use replay::{Replayed, replay};
 use replaycode::stop_code;
-use sweeps::answer::Inference;
 use text::name::put_name;
 use verifier::verify;
 
@@ -63,8 +62,8 @@ pub fn vsp_infer(version: u64, words: &[u8], low: u64, high: u64, annotations: &
 {
     let a = infer(version, words, Halves { low, high }, annotations);
     match a {
-        Inference::Proposed(k) => 65536 * k as u64,
-        Inference::Refused(f) => finding_code(f),
+        Ok(k) => 65536 * k as u64,
+        Err(found) => finding_code(found),
     }
 }
 
