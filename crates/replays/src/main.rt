@@ -10,8 +10,7 @@ ghost use Rattle.runbytes.specs.Served.Whole.{Whole};
 use replay::{Replayed, replay};
 use run::Stop;
 use runbytes::{
-    Front, MOST_RECORDED, MOST_UNIFORMS, Parted, container, load_lists, load_registers, number_at,
-    split,
+    Front, MOST_RECORDED, MOST_UNIFORMS, container, load_lists, load_registers, number_at, split,
 };
 use safety::verdict::{Finding, Reported};
 use text::put::put_digits;
@@ -42,8 +41,8 @@ fn say_half(output: &impl Print, half: Reported) {
 fn say_finding(output: &impl Print, f: Finding) {
     let half = f.half;
     say(output, b" REFUSED");
-    number(output, f.number as u64);
-    number(output, f.place as u64);
+    number(output, u64::from(f.number));
+    number(output, u64::from(f.place));
     number(output, f.index as u64);
     number(output, f.register as u64);
     say_half(output, half);
@@ -54,30 +53,30 @@ fn say_stop(output: &impl Print, s: Stop) {
     match s {
         Stop::Differs(k, r) => {
             say(output, b" DIFFERS");
-            number(output, k as u64);
-            number(output, r as u64);
+            number(output, u64::from(k));
+            number(output, u64::from(r));
         }
         Stop::Ended(n) => {
             say(output, b" END");
-            number(output, n as u64);
+            number(output, u64::from(n));
         }
         Stop::Limit(n) => {
             say(output, b" LIMIT");
-            number(output, n as u64);
+            number(output, u64::from(n));
         }
     }
 }
 
 fn say_answer(output: &impl Print, a: Replayed) {
     match a {
-        Replayed::Ran(s) => say_stop(output, s),
-        Replayed::Refused(f) => say_finding(output, f),
+        Ok(s) => say_stop(output, s),
+        Err(f) => say_finding(output, f),
     }
 }
 
 fn say_register(output: &impl Print, r: usize, v: u32) {
     let mut digits = [0u8; 8];
-    put_digits(v as u64, 16, 8, &mut digits);
+    put_digits(u64::from(v), 16, 8, &mut digits);
     say(output, b" r");
     output.print(r as u64).is_ok();
     say(output, b"=");
@@ -86,12 +85,10 @@ fn say_register(output: &impl Print, r: usize, v: u32) {
 
 // The registers that are left with another value than they had.
 fn say_changed(output: &impl Print, start: &[u32; REGISTERS], left: &[u32; REGISTERS]) {
-    let mut r = 0;
-    while r < REGISTERS {
+    for r in 0..REGISTERS {
         if start[r] != left[r] {
             say_register(output, r, left[r]);
         }
-        r += 1;
     }
 }
 
@@ -142,8 +139,8 @@ fn say_whole(output: &impl Print, bytes: &[u8], f: Front)
 fn say_asked(output: &impl Print, bytes: &[u8]) {
     let parted = split(bytes);
     match parted {
-        Parted::Whole(f) => say_whole(output, bytes, f),
-        Parted::Wrong(_) => say(output, b" WRONG"),
+        Ok(f) => say_whole(output, bytes, f),
+        Err(_) => say(output, b" WRONG"),
     }
     say(output, b"\n");
 }
@@ -168,6 +165,7 @@ fn entry_at(output: &impl Print, s: &[u8], at: usize) -> usize
     end
 }
 
+// All entries. Each says where the next one stands, so they are not counted.
 fn entries(output: &impl Print, s: &[u8]) {
     let mut at = 0;
     while at < s.len() {

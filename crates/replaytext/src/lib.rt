@@ -31,11 +31,7 @@ fn compared(n: u32, trace: &[u32]) -> u64
     ensures { result ≡ compared n trace.now }
 {
     let steps = n as usize;
-    let most = trace.len() / REGISTERS;
-    if steps < most {
-        return steps as u64;
-    }
-    most as u64
+    steps.min(trace.len() / REGISTERS) as u64
 }
 
 // A text, n, and `step` or `steps`.
@@ -63,10 +59,7 @@ fn put_stopped(why: &[u8], n: u32, trace: &[u32], out: &mut [u8]) -> usize
 fn number_at(list: &[u32], i: usize) -> u32
     ensures { result ≡ get_or list.now i 0 }
 {
-    if i < list.len() {
-        return list[i];
-    }
-    0
+    list.get(i).copied().unwrap_or(0)
 }
 
 // What the trace has for register r after step k; 0 past its end.
@@ -118,8 +111,8 @@ pub fn put_answer(a: Replayed, registers: &[u32; REGISTERS], trace: &[u32], out:
     ensures { Put (answer_line (replayed_outcome a) registers.now trace.now) out.old out.new result × (result ≤ longest_answer) }
 {
     match a {
-        Replayed::Ran(s) => put_stop(s, registers, trace, out),
-        Replayed::Refused(f) => put_verdict(Err(f), out),
+        Ok(s) => put_stop(s, registers, trace, out),
+        Err(f) => put_verdict(Err(f), out),
     }
 }
 
@@ -129,10 +122,8 @@ fn put_values(registers: &[u32], out: &mut [u8]) -> usize
     ensures { Put (values registers.now) out.old out.new result × (result ≡ 8 * length registers.now) }
 {
     let mut at = 0;
-    let mut i = 0;
-    while i < registers.len() {
-        at += put_digits(registers[i] as u64, 16, VALUE, &mut out[at..]);
-        i += 1;
+    for v in registers {
+        at += put_digits(*v as u64, 16, VALUE, &mut out[at..]);
     }
     at
 }

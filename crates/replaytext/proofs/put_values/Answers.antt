@@ -7,14 +7,14 @@ use Rattle.replaytext.specs.ReplayText.{values}
 use Rattle.replaytext.proofs.ValueLaws.{one_value}
 use Rattle.replaytext.proofs.put_values.Goals as goal
 
-pub loop-i-init : goal.loop-i-init
+pub loop-v-init : goal.loop-v-init
 unfolding values
-loop-i-init c = (omega arith, refl, refl, put_nothing refl c.args.out.now)
+loop-v-init c = (refl, refl, put_nothing refl c.args.out.now)
 
-pub loop-i-preserved : goal.loop-i-preserved
-loop-i-preserved c =
+pub loop-v-preserved : goal.loop-v-preserved
+loop-v-preserved c =
     let a = c.args in
-    let l = c.loop-i in
-    let p = put_next l.invariant.3 c.put_digits-at.ensures.0 in
-    let e : l.at + c.put_digits-at.result ≡ 8 * (l.i + 1) = omega (arith, c.put_digits-at.ensures.1) in
-    (omega arith, e, length_put p (omega arith), rw (add-one l.i) (same_text (one_value a.registers.now l.i (omega arith)) p))
+    let l = c.loop-v in
+    let p = put_next l.invariant.2 c.put_digits-at.ensures.0 in
+    let e : l.at + c.put_digits-at.result ≡ 8 * (l.v-index + 1) = omega (arith, c.put_digits-at.ensures.1) in
+    (e, length_put p (omega arith), rw (add-one l.v-index) (same_text (one_value a.registers.now l.v-index (omega arith)) p))

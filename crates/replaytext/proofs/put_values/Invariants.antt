@@ -1,12 +1,9 @@
 use mathlib.Core.Path.{◌≡◌}
-use Prim.Native.Nat.{◌*◌, ◌-◌, ◌≤◌}
+use Prim.Native.Nat.{◌*◌}
 use lib.ListN.{length, take}
 use Rattle.text.specs.Text.{Put}
 use Rattle.replaytext.specs.ReplayText.{values}
 use Rattle.replaytext.proofs.put_values.Given as goal
 
-abbrev pub invariant-loop-i : goal.invariant-loop-i
-invariant-loop-i l = (l.i ≤ length l.registers) × (l.at ≡ 8 * l.i) × (length l.out ≡ length l.initial.out) × Put (values (take l.i l.registers)) l.initial.out l.out l.at
-
-abbrev pub decreases-loop-i : goal.decreases-loop-i
-decreases-loop-i l = length l.registers - l.i
+abbrev pub invariant-loop-v : goal.invariant-loop-v
+invariant-loop-v l = (l.at ≡ 8 * l.v-index) × (length l.out ≡ length l.initial.out) × Put (values (take l.v-index l.registers)) l.initial.out l.out l.at
