@@ -180,6 +180,10 @@ pub record Framed (s : List ℕ) : Type 0 where
   pub read : known (version_of s) ≡ true
   pub nought : zero_of s ≡ 0
 
+-- the tests that the code makes before it
+pub framed_by : {s : List ℕ} {m k : Bool} {v : ℕ} → shortest_header ≤ length s → m ≡ marked s → m ≡ true → v ≡ version_of s → k ≡ known v → k ≡ true → zero_of s ≡ 0 → Framed s
+framed_by long em m ev ek k z = record { long = long; mark = sym em ∙ m; read = ap known (sym ev) ∙ sym ek ∙ k; nought = z }
+
 -- what opens has passed that
 pub framed : (s : List ℕ) {h : Header} → open_outcome s ≡ gives h → Framed s
 unfolding open_outcome

@@ -20,7 +20,11 @@ use safety::verdict::{Verdict, none_missing, refused};
 pub fn fills(version: u64, x: Instruction) -> Halves
     ensures { result ≡ fills version x }
 {
-    if version == 1 { both(x.defines()) } else { x.writes() }
+    if version == 1 {
+        both(x.defines())
+    } else {
+        x.writes()
+    }
 }
 
 // What is defined after an instruction before which `held` is.

@@ -11,8 +11,11 @@ pub returns-in_err-none_missing : goal.returns-in_err-none_missing
 unfolding judge_flow
 returns-in_err-none_missing c =
     let a = c.args in
-    rw (left_by _ c.from_residual.ensures, stops _ (c.in_err-none_missing.ensures
-    ∙ ap₂ (λ (x y : Halves). none_missing 20 a.i x y) (c.both.ensures ∙ ap both_of c.uses-u.ensures.0) c.at-before.ensures)) refl
+    rw (
+      left_by _ c.from_residual.ensures,
+      stops _ (c.in_err-none_missing.ensures
+          ∙ ap₂ (λ (x y : Halves). none_missing 20 a.i x y) (c.both.ensures ∙ ap both_of c.uses-u.ensures.0) c.at-before.ensures),
+    ) refl
 
 pub returns : goal.returns
 unfolding judge_flow

@@ -7,10 +7,10 @@ use Rattle.bits.specs.declared.halves.Halves.{Halves}
 use Rattle.container.specs.declared.format.Format.{Format}
 use Rattle.container.specs.declared.header.Header.{Header}
 use Rattle.container.specs.Formats.{known, high_offset, most_of, container_length}
-use Rattle.container.specs.Container.{number, version_of, entry_of}
+use Rattle.container.specs.Container.{number, entry_of}
 use Rattle.container.specs.Opening.{Rejection}
 use Rattle.container.proofs.FormatLaws.{bounded_by}
-use Rattle.container.proofs.OpeningLaws.{count_two, too_short, wrong_mark, wrong_version, wrong_zero, Framed, no_instruction, too_many, wrong_length, opens}
+use Rattle.container.proofs.OpeningLaws.{count_two, too_short, wrong_mark, wrong_version, wrong_zero, framed_by, no_instruction, too_many, wrong_length, opens}
 use Rattle.container.proofs.header.open.Goals as goal
 
 -- the same header, part by part
@@ -42,45 +42,30 @@ returns-then-bytes-ne0 c =
 
 pub returns-then-count-lt-FEWEST : goal.returns-then-count-lt-FEWEST
 returns-then-count-lt-FEWEST c =
-    let version : c.version_in-version.result ≡ version_of c.args.bytes.now = c.version_in-version.ensures in
-    let framed : Framed c.args.bytes.now = record {
-      long = c.if-bytes-lt-SHORTEST_HEADER.false;
-      mark = sym c.has_mark.ensures ∙ c.if-not-has_mark.false;
-      read = ap known (sym (version)) ∙ sym c.known.ensures ∙ c.if-not-known.false;
-      nought = c.if-bytes-ne0.false;
-    } in
+    let v = c.version_in-version.ensures in
+    let framed = framed_by c.if-bytes-lt-SHORTEST_HEADER.false c.has_mark.ensures c.if-not-has_mark.false v c.known.ensures c.if-not-known.false c.if-bytes-ne0.false in
     let s = c.args.bytes.now in
     let n = c.from-count.ensures ∙ c.from_le_bytes.ensures ∙ sym (count_two s) in
-    no_instruction s (framed) (omega (arith, c.if-count-lt-FEWEST.true))
+    no_instruction s framed (omega (arith, c.if-count-lt-FEWEST.true))
 
 pub returns-then-f-count : goal.returns-then-f-count
 returns-then-f-count c =
-    let version : c.version_in-version.result ≡ version_of c.args.bytes.now = c.version_in-version.ensures in
-    let framed : Framed c.args.bytes.now = record {
-      long = c.if-bytes-lt-SHORTEST_HEADER.false;
-      mark = sym c.has_mark.ensures ∙ c.if-not-has_mark.false;
-      read = ap known (sym (version)) ∙ sym c.known.ensures ∙ c.if-not-known.false;
-      nought = c.if-bytes-ne0.false;
-    } in
+    let v = c.version_in-version.ensures in
+    let framed = framed_by c.if-bytes-lt-SHORTEST_HEADER.false c.has_mark.ensures c.if-not-has_mark.false v c.known.ensures c.if-not-known.false c.if-bytes-ne0.false in
     let s = c.args.bytes.now in
     let n = c.from-count.ensures ∙ c.from_le_bytes.ensures ∙ sym (count_two s) in
-    let m = ap (λ (f : Format). f.most) c.format_of-f.ensures ∙ ap most_of (version) in
-    too_many s (framed) (omega (arith, m, n, c.if-f-count.true))
+    let m = ap (λ (f : Format). f.most) c.format_of-f.ensures ∙ ap most_of v in
+    too_many s framed (omega (arith, m, n, c.if-f-count.true))
 
 pub returns-then-bytes-container_length : goal.returns-then-bytes-container_length
 returns-then-bytes-container_length c =
-    let version : c.version_in-version.result ≡ version_of c.args.bytes.now = c.version_in-version.ensures in
-    let framed : Framed c.args.bytes.now = record {
-      long = c.if-bytes-lt-SHORTEST_HEADER.false;
-      mark = sym c.has_mark.ensures ∙ c.if-not-has_mark.false;
-      read = ap known (sym (version)) ∙ sym c.known.ensures ∙ c.if-not-known.false;
-      nought = c.if-bytes-ne0.false;
-    } in
+    let v = c.version_in-version.ensures in
+    let framed = framed_by c.if-bytes-lt-SHORTEST_HEADER.false c.has_mark.ensures c.if-not-has_mark.false v c.known.ensures c.if-not-known.false c.if-bytes-ne0.false in
     let s = c.args.bytes.now in
     let n = c.from-count.ensures ∙ c.from_le_bytes.ensures ∙ sym (count_two s) in
-    let m = ap (λ (f : Format). f.most) c.format_of-f.ensures ∙ ap most_of (version) in
-    wrong_length s (framed) (omega (arith, n, c.if-count-lt-FEWEST.false)) (omega (arith, m, n, c.if-f-count.false))
-    (λ e. c.if-bytes-container_length.true (e ∙ ap₂ container_length (sym (version)) (sym n) ∙ sym c.container_length.ensures))
+    let m = ap (λ (f : Format). f.most) c.format_of-f.ensures ∙ ap most_of v in
+    wrong_length s framed (omega (arith, n, c.if-count-lt-FEWEST.false)) (omega (arith, m, n, c.if-f-count.false))
+    (λ e. c.if-bytes-container_length.true (e ∙ ap₂ container_length (sym v) (sym n) ∙ sym c.container_length.ensures))
 
 pub halves_in-requires : goal.halves_in-requires
 halves_in-requires c =
@@ -90,18 +75,12 @@ halves_in-requires c =
 pub returns : goal.returns
 unfolding entry_of
 returns c =
-    let version : c.version_in-version.result ≡ version_of c.args.bytes.now = c.version_in-version.ensures in
-    let framed : Framed c.args.bytes.now = record {
-      long = c.if-bytes-lt-SHORTEST_HEADER.false;
-      mark = sym c.has_mark.ensures ∙ c.if-not-has_mark.false;
-      read = ap known (sym (version)) ∙ sym c.known.ensures ∙ c.if-not-known.false;
-      nought = c.if-bytes-ne0.false;
-    } in
+    let v = c.version_in-version.ensures in
+    let framed = framed_by c.if-bytes-lt-SHORTEST_HEADER.false c.has_mark.ensures c.if-not-has_mark.false v c.known.ensures c.if-not-known.false c.if-bytes-ne0.false in
     let s = c.args.bytes.now in
     let n = c.from-count.ensures ∙ c.from_le_bytes.ensures ∙ sym (count_two s) in
-    let v = version in
     let m = ap (λ (f : Format). f.most) c.format_of-f.ensures ∙ ap most_of v in
     let h = ap (λ (f : Format). f.high) c.format_of-f.ensures ∙ ap high_offset v in
     same v n (c.halves_in.ensures ∙ ap (λ (k : ℕ). halves (number s 8 8) (number s (8 + k) 8)) h)
-    ∙ opens s (framed) (omega (arith, n, c.if-count-lt-FEWEST.false)) (omega (arith, m, n, c.if-f-count.false))
+    ∙ opens s framed (omega (arith, n, c.if-count-lt-FEWEST.false)) (omega (arith, m, n, c.if-f-count.false))
     (c.if-bytes-container_length.false ∙ c.container_length.ensures ∙ ap₂ container_length v n)

@@ -1,28 +1,18 @@
 use native.Mathlib.Omega.{arith}
-use Rattle.container.proofs.OpeningLaws.{Placed, placed, opened_by}
+use Rattle.container.proofs.OpeningLaws.{placed, opened_by}
 use Rattle.container.proofs.parts.annotations.Goals as goal
 
 pub overflow_mul-start : goal.overflow_mul-start
-overflow_mul-start c =
-    let size : Placed c.args.bytes.now c.in-Ok.header c.format_of-f.result = placed c.args.bytes.now (opened_by c.open.ensures c.in-Ok.is) c.format_of-f.ensures in
-    let z = size in record { fits = omega (arith, z.few) }
+overflow_mul-start c = let z = placed c.args.bytes.now (opened_by c.open.ensures c.in-Ok.is) c.format_of-f.ensures in record { fits = omega (arith, z.few) }
 
 pub overflow_add-start : goal.overflow_add-start
-overflow_add-start c =
-    let size : Placed c.args.bytes.now c.in-Ok.header c.format_of-f.result = placed c.args.bytes.now (opened_by c.open.ensures c.in-Ok.is) c.format_of-f.ensures in
-    let z = size in omega (arith, z.words_end)
+overflow_add-start c = let z = placed c.args.bytes.now (opened_by c.open.ensures c.in-Ok.is) c.format_of-f.ensures in omega (arith, z.words_end)
 
 pub overflow_mul-end : goal.overflow_mul-end
-overflow_mul-end c =
-    let size : Placed c.args.bytes.now c.in-Ok.header c.format_of-f.result = placed c.args.bytes.now (opened_by c.open.ensures c.in-Ok.is) c.format_of-f.ensures in
-    let z = size in omega (arith, z.annotations_end)
+overflow_mul-end c = let z = placed c.args.bytes.now (opened_by c.open.ensures c.in-Ok.is) c.format_of-f.ensures in omega (arith, z.annotations_end)
 
 pub overflow_add-end : goal.overflow_add-end
-overflow_add-end c =
-    let size : Placed c.args.bytes.now c.in-Ok.header c.format_of-f.result = placed c.args.bytes.now (opened_by c.open.ensures c.in-Ok.is) c.format_of-f.ensures in
-    let z = size in omega (arith, z.annotations_end)
+overflow_add-end c = let z = placed c.args.bytes.now (opened_by c.open.ensures c.in-Ok.is) c.format_of-f.ensures in omega (arith, z.annotations_end)
 
 pub slice_bounds-result-end-2 : goal.slice_bounds-result-end-2
-slice_bounds-result-end-2 c =
-    let size : Placed c.args.bytes.now c.in-Ok.header c.format_of-f.result = placed c.args.bytes.now (opened_by c.open.ensures c.in-Ok.is) c.format_of-f.ensures in
-    let z = size in omega (arith, z.annotations_end)
+slice_bounds-result-end-2 c = let z = placed c.args.bytes.now (opened_by c.open.ensures c.in-Ok.is) c.format_of-f.ensures in omega (arith, z.annotations_end)

@@ -1,4 +1,4 @@
-use mathlib.Core.Path.{refl, sym}
+use mathlib.Core.Path.{sym}
 use Rattle.bits.specs.Outcomes.{refuses}
 use Rattle.bits.proofs.OutcomeLaws.{left_by, stops, goes_on}
 use Rattle.verifier.proofs.program.Words.unreadable_from.Goals as goal
