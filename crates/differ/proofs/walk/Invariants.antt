@@ -1,8 +1,7 @@
 use mathlib.Core.Path.{◌≡◌}
-use Prim.Native.Nat.{◌-◌, ◌≤◌}
+use Prim.Native.Nat.{◌≤◌}
 use lib.ListN.{length, drop}
 use Rattle.differences.specs.Differences.{differences}
-use Rattle.differences.specs.Numbers.{most_lines}
 use Rattle.diff.specs.Served.Cursor.{remaining}
 use Rattle.differ.proofs.walk.Given as goal
 
