@@ -23,7 +23,6 @@ use bits::halves::Halves;
 use codec::{read_word, write_word};
 use codes::{finding_code, refusal_code, unread_code};
 use diff::diff_line;
-use differences::answer::{Compared, Listed};
 use differences::numbers::{MOST_NUMBERS, line_numbers};
 use difflist::diff_lines;
 use disasm::put_instruction;
@@ -75,12 +74,12 @@ pub fn vsp_diff_line<'a>(first: &'a [u8], second: &'a [u8], k: usize, line: &mut
 {
     let c = diff_line(first, second, k);
     match c {
-        Compared::Line(l) => {
+        Ok(Some(l)) => {
             *line = line_numbers(l);
             0
         }
-        Compared::Fewer => 255,
-        Compared::Unread(u) => unread_code(u),
+        Ok(None) => 255,
+        Err(u) => unread_code(u),
     }
 }
 
@@ -92,8 +91,8 @@ pub fn vsp_diff_lines<'a>(first: &'a [u8], second: &'a [u8], lines: &mut [u64; M
 {
     let l = diff_lines(first, second, lines);
     match l {
-        Listed::Lines(n) => 65536 * n as u64,
-        Listed::Unread(u) => unread_code(u),
+        Ok(n) => 65536 * n as u64,
+        Err(u) => unread_code(u),
     }
 }
 

@@ -16,11 +16,11 @@ ghost use Rattle.differ.specs.Comparing.{length_length, most_read, length_in, re
 use bits::bytes::load64;
 use container::layout::LONGEST_CONTAINER;
 use diff::both_read;
-use diff::cursor::{At, Contents, Step, advance};
-use differences::answer::{Ready, Side, Unread};
+use diff::cursor::{At, Contents, advance};
+use differences::answer::{Side, Unread};
 use differences::line::{FIELDS, Line};
 use differences::numbers::MOST_LINES;
-use diffparts::single::{Single, version_line};
+use diffparts::single::version_line;
 use difftext::write_line;
 use input::Input;
 use safety::verdict::Verdict;
@@ -86,22 +86,16 @@ fn walk<'a>(
     requires { Parted input bytes.now first.now second.now × Counted first.now n second.now m × (from ≤ length (differences first.now second.now)) × (content_lines first.now second.now ≡ drop from (differences first.now second.now)) }
 {
     let mut at = At::START;
-    let mut k = from;
-    while k < MOST_LINES {
-        match advance(first, n, second, m, at, xs, ys) {
-            Step::Told(line, next) => {
-                if !send_line(output, bytes, input, k, line) {
-                    return false;
-                }
-                at = next;
-            }
-            Step::End => {
-                return all_sent(bytes, k);
-            }
+    for k in from..MOST_LINES {
+        let Some((line, next)) = advance(first, n, second, m, at, xs, ys) else {
+            return all_sent(bytes, k);
+        };
+        if !send_line(output, bytes, input, k, line) {
+            return false;
         }
-        k += 1;
+        at = next;
     }
-    all_sent(bytes, k)
+    all_sent(bytes, MOST_LINES)
 }
 
 // Sends all lines: first that of the versions, where they differ.
@@ -119,13 +113,13 @@ fn send_all<'a>(
     requires { Parted input bytes.now first.now second.now × Counted first.now n second.now m }
 {
     match version_line(first, second) {
-        Single::Told(line) => {
+        Some(line) => {
             if !send_line(output, bytes, input, 0, line) {
                 return false;
             }
             walk(output, bytes, input, first, n, second, m, 1, xs, ys)
         }
-        Single::Nothing => walk(output, bytes, input, first, n, second, m, 0, xs, ys),
+        None => walk(output, bytes, input, first, n, second, m, 0, xs, ys),
     }
 }
 
@@ -169,9 +163,8 @@ fn refuse(errors: &impl Print, bytes: &[u8], input: Input, u: Unread)
 {
     let side = u.side;
     let finding = u.finding;
-    let v = Err(finding);
     let mut line = [0u8; LONGEST_VERDICT];
-    let n = write_verdict(v, &mut line);
+    let n = write_verdict(Err(finding), &mut line);
     match side {
         Side::First => tell_refusal(errors, bytes, input, u, b"differ: first\n", &line[..n]),
         Side::Second => tell_refusal(errors, bytes, input, u, b"differ: second\n", &line[..n]),
@@ -189,8 +182,8 @@ fn compare<'a>(
     requires { Parted input bytes.now first.now second.now }
 {
     match both_read(first, second) {
-        Ready::Both => list(output, errors, bytes, input, first, second),
-        Ready::Unread(u) => refuse(errors, bytes, input, u),
+        Ok(()) => list(output, errors, bytes, input, first, second),
+        Err(u) => refuse(errors, bytes, input, u),
     }
 }
 
@@ -200,10 +193,7 @@ fn first_end(bytes: &[u8]) -> usize
     ensures { result ≡ length_length + min (length_in bytes.now) (length bytes.now - length_length) }
 {
     let n = load64(&bytes[..LENGTH_LENGTH]) as usize;
-    if bytes.len() - LENGTH_LENGTH < n {
-        return bytes.len();
-    }
-    LENGTH_LENGTH + n
+    LENGTH_LENGTH + n.min(bytes.len() - LENGTH_LENGTH)
 }
 
 // Compares what was read. An input that is too short for a length has two empty containers.

@@ -1,8 +1,6 @@
-use mathlib.Core.Path.{sym, ap, ◌∙◌}
 use native.Mathlib.Omega.{arith}
-use Rattle.diff.specs.declared.cursor.Step.{Step}
+use mathlib.Core.Path.{◌∙◌}
 use Rattle.differences.specs.Differences.{differences}
-use Rattle.diff.specs.Served.Cursor.{stepped}
 use Rattle.diff.proofs.WalkLaws.{from_start}
 use Rattle.diff.proofs.FewLaws.{few_lines}
 use Rattle.differ.proofs.ComparingLaws.{line_in, count_in, at_line, at_end}
@@ -12,24 +10,18 @@ pub loop-k-init : goal.loop-k-init
 loop-k-init g c =
     (c.requires.2, from_start c.args.first.now c.args.second.now c.args.xs.now c.args.ys.now ∙ c.requires.3)
 
-pub send_line-requires : goal.send_line-requires
-send_line-requires g c =
-    let a = c.args.first.now in
-    let b = c.args.second.now in
-    let t = at_line (differences a b) c.loop-k.k (ap (λ (r : Step). stepped a b r c.advance.new.xs c.advance.new.ys) (sym c.in-Told.is) ∙ c.advance.ensures ∙ c.loop-k.invariant.1) in
-    (c.requires.0.all, line_in c.requires.0 c.loop-k.k t.0)
-
 pub all_sent-requires : goal.all_sent-requires
 all_sent-requires g c =
-    let a = c.args.first.now in
-    let b = c.args.second.now in
-    count_in c.requires.0 (at_end (differences a b) c.loop-k.k c.loop-k.invariant.0 (ap (λ (r : Step). stepped a b r c.advance.new.xs c.advance.new.ys) (sym c.in-End.is) ∙ c.advance.ensures ∙ c.loop-k.invariant.1))
+    count_in c.requires.0 (at_end (differences c.args.first.now c.args.second.now) c.loop-k.k c.loop-k.invariant.0 (c.in_default.ensures ∙ c.loop-k.invariant.1))
+
+pub send_line-requires : goal.send_line-requires
+send_line-requires g c =
+    let t = at_line (differences c.args.first.now c.args.second.now) c.loop-k.k (c.in-Some.ensures ∙ c.loop-k.invariant.1) in
+    (c.requires.0.all, line_in c.requires.0 c.loop-k.k t.0)
 
 pub loop-k-preserved : goal.loop-k-preserved
 loop-k-preserved g c =
-    let a = c.args.first.now in
-    let b = c.args.second.now in
-    let t = at_line (differences a b) c.loop-k.k (ap (λ (r : Step). stepped a b r c.advance.new.xs c.advance.new.ys) (sym c.in-Told.is) ∙ c.advance.ensures ∙ c.loop-k.invariant.1) in
+    let t = at_line (differences c.args.first.now c.args.second.now) c.loop-k.k (c.in-Some.ensures ∙ c.loop-k.invariant.1) in
     (omega (arith, t.1), t.2)
 
 pub all_sent-requires-2 : goal.all_sent-requires-2
