@@ -1,5 +1,5 @@
 -- How an input is parted, and how the lines are sent in turn. Assumes nothing.
-use Rattle.std.specs.Prelude.{Some}
+use Rattle.std.specs.Prelude.{Some, Ok}
 use mathlib.Core.Path.{◌≡◌, refl, sym, ap, ap₂, ◌∙◌}
 use mathlib.Core.Bool.{Bool, true, false}
 use mathlib.Core.List.{List, [], ◌∷◌}
@@ -16,8 +16,7 @@ use Rattle.differences.specs.declared.answer.Unread.{Unread}
 use Rattle.differences.specs.Differences.{version_lines, content_lines, differences}
 use Rattle.differences.specs.Answers.{both_read}
 use Rattle.diff.proofs.AnswerLaws.{after_version}
-use Rattle.input.specs.declared.Input.{Input}
-use Rattle.input.specs.declared.Input.TheVariants.{Bytes}
+use Rattle.input.specs.Input.{Input}
 use Rattle.differ.specs.Comparing.{length_in, ready, listed, Parted}
 
 -- a list has no bytes after its end
@@ -46,7 +45,7 @@ module _ (n : ℕ) (l : List ℕ) where
           let h = ltb-false n (length l) e in
           drop_of_length-le l {i = min n (length l)} (omega arith) ∙ sym (drop_of_length-le l {i = n} h)
 
-module _ {input : Input} (s : List ℕ) (e : input ≡ Bytes (length s)) where
+module _ {input : Input} (s : List ℕ) (e : input ≡ Ok (length s)) where
   -- an input that is too short for a length
   pub none_parted : length s < 8 → Parted input s [] []
   none_parted h =

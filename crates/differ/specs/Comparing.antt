@@ -1,6 +1,6 @@
 -- What the differ reads and what it tells of it (02, Item 4): the length of the first container in eight bytes, the lowest first, then the first
 -- container, and then the second to the end of the input.
-use Rattle.std.specs.Prelude.{◌≡◌, List, [], ◌∷◌, ◌++◌, ℕ, ◌+◌, ◌*◌, length, take, drop}
+use Rattle.std.specs.Prelude.{◌≡◌, List, [], ◌∷◌, ◌++◌, ℕ, ◌+◌, ◌*◌, length, take, drop, Ok}
 use Rattle.bits.specs.Bytes.{little}
 use Rattle.bits.specs.Outcomes.{Outcome}
 use Rattle.rows.specs.Names.{ascii}
@@ -10,8 +10,7 @@ use Rattle.differences.specs.declared.answer.Side.TheVariants.{First, Second}
 use Rattle.differences.specs.declared.answer.Unread.{Unread}
 use Rattle.differences.specs.Differences.{differences}
 use Rattle.differences.specs.Answers.{both_read}
-use Rattle.input.specs.declared.Input.{Input}
-use Rattle.input.specs.declared.Input.TheVariants.{Bytes}
+use Rattle.input.specs.Input.{Input}
 use Rattle.listing.specs.Cut.{read_length}
 use Rattle.text.specs.Text.{line_feed}
 
@@ -48,6 +47,6 @@ side_line Second = ascii "differ: second" ++ (line_feed ∷ [])
 
 -- the bytes are all that were read, and are parted into the two
 pub record Parted (input : Input) (s first second : List ℕ) : Type 0 where
-  pub all : input ≡ Bytes (length s)
+  pub all : input ≡ Ok (length s)
   pub front : first ≡ first_in s
   pub rest : second ≡ second_in s

@@ -2,13 +2,12 @@
 // status, so standard error tells which of them does not open or read, and why, or what failed.
 #![tactic(auto)]
 
-ghost use Rattle.std.specs.Prelude.{◌≡◌, ◌+◌, ◌-◌, ◌≤◌, min, length, drop, Some};
+ghost use Rattle.std.specs.Prelude.{◌≡◌, ◌+◌, ◌-◌, ◌≤◌, min, length, drop, Some, Ok};
 ghost use Rattle.bits.specs.Lists.{kth};
 ghost use Rattle.bits.specs.Outcomes.{refuses};
 ghost use Rattle.differences.specs.Differences.{content_lines, differences};
 ghost use Rattle.diffparts.specs.Served.Parts.{Both, Counted};
 ghost use Rattle.linetext.specs.Lines.{line_text};
-ghost use Rattle.input.specs.declared.Input.TheVariants.{Bytes};
 ghost use Rattle.input.specs.Input.{Within};
 ghost use Rattle.verdictline.specs.VerdictLine.{verdict_line};
 ghost use Rattle.differ.specs.Comparing.{length_length, most_read, length_in, ready, listed, side_line, Parted};
@@ -49,7 +48,7 @@ fn tell(errors: &impl Print, text: &[u8]) -> bool {
 
 // The one way to standard output: the text of line k of what differs. It is written until all of it is, or until a write fails.
 fn send(output: &impl Print, bytes: &[u8], input: Input, k: usize, line: Line, text: &[u8]) -> bool
-    requires { (input ≡ Bytes (length bytes.now)) × (kth (listed bytes.now) k ≡ Some line) × (text.now ≡ line_text line) }
+    requires { (input ≡ Ok (length bytes.now)) × (kth (listed bytes.now) k ≡ Some line) × (text.now ≡ line_text line) }
 {
     output.write_all(text).is_ok()
 }
@@ -63,7 +62,7 @@ fn all_sent(bytes: &[u8], k: usize) -> bool
 
 // Sends line k.
 fn send_line(output: &impl Print, bytes: &[u8], input: Input, k: usize, line: Line) -> bool
-    requires { (input ≡ Bytes (length bytes.now)) × (kth (listed bytes.now) k ≡ Some line) }
+    requires { (input ≡ Ok (length bytes.now)) × (kth (listed bytes.now) k ≡ Some line) }
 {
     let mut text = [0u8; difftext::LONGEST];
     let n = write_line(line, &mut text);
@@ -151,7 +150,7 @@ fn tell_refusal<'a>(
     side: &'a [u8],
     line: &'a [u8],
 )
-    requires { (input ≡ Bytes (length bytes.now)) × (ready bytes.now ≡ refuses u) × (side.now ≡ side_line u.side) × (line.now ≡ verdict_line (refuses u.finding)) }
+    requires { (input ≡ Ok (length bytes.now)) × (ready bytes.now ≡ refuses u) × (side.now ≡ side_line u.side) × (line.now ≡ verdict_line (refuses u.finding)) }
 {
     tell(errors, side);
     tell(errors, line);
@@ -159,7 +158,7 @@ fn tell_refusal<'a>(
 
 // Tells which one does not open or read, and why.
 fn refuse(errors: &impl Print, bytes: &[u8], input: Input, u: Unread)
-    requires { (input ≡ Bytes (length bytes.now)) × (ready bytes.now ≡ refuses u) }
+    requires { (input ≡ Ok (length bytes.now)) × (ready bytes.now ≡ refuses u) }
 {
     let side = u.side;
     let finding = u.finding;
@@ -198,7 +197,7 @@ fn first_end(bytes: &[u8]) -> usize
 
 // Compares what was read. An input that is too short for a length has two empty containers.
 fn report(output: &impl Print, errors: &impl Print, bytes: &[u8], input: Input)
-    requires { input ≡ Bytes (length bytes.now) }
+    requires { input ≡ Ok (length bytes.now) }
 {
     if bytes.len() < LENGTH_LENGTH {
         compare(output, errors, bytes, input, &bytes[..0], &bytes[..0]);
@@ -221,8 +220,8 @@ fn main(rt: HostRuntime) {
     let mut buffer = [0u8; MOST];
     let input = read_part(&mut rt.stdin(), &mut buffer);
     match input {
-        Input::Bytes(n) => report(&output, &errors, &buffer[..n], input),
-        Input::Failed => {
+        Ok(n) => report(&output, &errors, &buffer[..n], input),
+        Err(_) => {
             tell(&errors, b"differ: standard input cannot be read\n");
         }
     }

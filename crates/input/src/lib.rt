@@ -3,28 +3,27 @@
 
 mod partial;
 
-ghost use Rattle.std.specs.Prelude.{◌≡◌, length};
-ghost use Rattle.input.specs.declared.Input.TheVariants.{Bytes};
+ghost use Rattle.std.specs.Prelude.{◌≡◌, Ok, length};
 ghost use Rattle.input.specs.Input.{taken, Within};
 
 pub use partial::read_full;
 use std::io;
 use std::io::Read;
 
+// A read of the input failed.
+#[derive(Clone, Copy, Debug, PartialEq, Eq)]
+pub struct ReadFailed;
+
 // How many bytes were read, or that a read failed.
-#[derive(Clone, Copy)]
-pub enum Input {
-    Bytes(usize),
-    Failed,
-}
+pub type Input = Result<usize, ReadFailed>;
 
 // What one read gave: an error is a failure.
 fn input_of(got: io::Result<usize>) -> Input
     ensures { result ≡ taken got }
 {
     match got {
-        Ok(n) => Input::Bytes(n),
-        Err(_) => Input::Failed,
+        Ok(n) => Ok(n),
+        Err(_) => Err(ReadFailed),
     }
 }
 
@@ -32,24 +31,23 @@ fn input_of(got: io::Result<usize>) -> Input
 fn read_some<R: Read>(reader: &mut R, buffer: &mut [u8]) -> Input
     ensures { Within result (length buffer.old) }
 {
-    let got = reader.read(buffer);
-    input_of(got)
+    input_of(reader.read(buffer))
 }
 
 // So many bytes are all that there are: the last read gave none.
 fn ended(at: usize, last: usize) -> Input
     requires { last ≡ 0 }
-    ensures { result ≡ Bytes at }
+    ensures { result ≡ Ok at }
 {
-    Input::Bytes(at)
+    Ok(at)
 }
 
 // So many bytes are all that there is room for.
 fn full(at: usize, room: usize) -> Input
     requires { at ≡ room }
-    ensures { result ≡ Bytes at }
+    ensures { result ≡ Ok at }
 {
-    Input::Bytes(at)
+    Ok(at)
 }
 
 // Reads until the buffer is full or the input ends.
@@ -58,18 +56,11 @@ pub fn fill<R: Read>(reader: &mut R, buffer: &mut [u8]) -> Input
 {
     let mut at = 0;
     while at < buffer.len() {
-        let more = read_some(reader, &mut buffer[at..]);
-        match more {
-            Input::Bytes(n) => {
-                if n == 0 {
-                    return ended(at, n);
-                }
-                at += n;
-            }
-            Input::Failed => {
-                return Input::Failed;
-            }
+        let n = read_some(reader, &mut buffer[at..])?;
+        if n == 0 {
+            return ended(at, n);
         }
+        at += n;
     }
     full(at, buffer.len())
 }

@@ -1,7 +1,7 @@
 // Reading as `fill` does, but a failed read counts as the end of the input.
 ghost use Rattle.std.specs.Prelude.{◌≤◌, length};
 
-use crate::{Input, read_some};
+use crate::read_some;
 use std::io::Read;
 
 // Reads until the buffer is full, the input ends or a read fails, and gives how many bytes it put at the buffer's start.
@@ -10,18 +10,11 @@ pub fn read_full<R: Read>(reader: &mut R, buffer: &mut [u8]) -> usize
 {
     let mut at = 0;
     while at < buffer.len() {
-        let more = read_some(reader, &mut buffer[at..]);
-        match more {
-            Input::Bytes(n) => {
-                if n == 0 {
-                    return at;
-                }
-                at += n;
-            }
-            Input::Failed => {
-                return at;
-            }
+        let n = read_some(reader, &mut buffer[at..]).unwrap_or(0);
+        if n == 0 {
+            return at;
         }
+        at += n;
     }
     at
 }

@@ -2,8 +2,7 @@
 // the verdict. A program here has no exit status, so what fails is told on standard error.
 #![tactic(auto)]
 
-ghost use Rattle.std.specs.Prelude.{◌≡◌, length};
-ghost use Rattle.input.specs.declared.Input.TheVariants.{Bytes};
+ghost use Rattle.std.specs.Prelude.{◌≡◌, length, Ok};
 ghost use Rattle.input.specs.Input.{Within};
 ghost use Rattle.listing.specs.Cut.{read_length};
 ghost use Rattle.listing.specs.Listing.{listing};
@@ -37,7 +36,7 @@ fn send(output: &impl Print, bytes: &[u8], text: &[u8]) -> bool
 
 // Writes the listing of the bytes, which are as many as were read.
 fn list(output: &impl Print, bytes: &[u8], input: Input) -> bool
-    requires { input ≡ Bytes (length bytes.now) }
+    requires { input ≡ Ok (length bytes.now) }
 {
     let mut out = [0u8; LONGEST];
     let n = listing::write(bytes, &mut out);
@@ -46,7 +45,7 @@ fn list(output: &impl Print, bytes: &[u8], input: Input) -> bool
 
 // Lists what was read.
 fn report(output: &impl Print, errors: &impl Print, bytes: &[u8], input: Input)
-    requires { input ≡ Bytes (length bytes.now) }
+    requires { input ≡ Ok (length bytes.now) }
 {
     if !list(output, bytes, input) {
         complain(errors, b"lister: standard output cannot be written\n");
@@ -59,8 +58,8 @@ fn main(rt: HostRuntime) {
     let mut buffer = [0u8; MOST];
     let input = read_part(&mut rt.stdin(), &mut buffer);
     match input {
-        Input::Bytes(n) => report(&output, &errors, &buffer[..n], input),
-        Input::Failed => {
+        Ok(n) => report(&output, &errors, &buffer[..n], input),
+        Err(_) => {
             complain(&errors, b"lister: standard input cannot be read\n");
         }
     }

@@ -22,7 +22,7 @@ use Rattle.safety.specs.Verdict.{plain}
 use Rattle.infer.specs.Inference.{infer_outcome}
 use Rattle.infer.specs.Asked.{Inferred}
 use Rattle.infer.proofs.NumberedLaws.{given}
-use Rattle.input.specs.declared.Input.{Input}
+use Rattle.input.specs.Input.{Input}
 use Rattle.maker.specs.Making.{read_length, version_in, words_in, entry_in, blank, answer_to, notes_for, made, Read, Parted}
 
 -- the first k of n equal numbers

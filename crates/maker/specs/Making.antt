@@ -1,6 +1,6 @@
 -- What the maker reads and what it makes of it (02, Items 1 and 7): a version, the low halves and the high halves of the entry set, each in
 -- eight bytes, the lowest first, and then the words.
-use Rattle.std.specs.Prelude.{◌≡◌, List, ℕ, ◌+◌, ◌*◌, ◌≤◌, leb, length, drop, replicate}
+use Rattle.std.specs.Prelude.{◌≡◌, List, ℕ, ◌+◌, ◌*◌, ◌≤◌, leb, length, drop, replicate, Ok}
 use Rattle.bits.specs.Halves.{halves}
 use Rattle.bits.specs.declared.halves.Halves.{Halves}
 use Rattle.bits.specs.Outcomes.{Outcome, require, ◌then◌}
@@ -10,8 +10,7 @@ use Rattle.packing.specs.Packing.{word_count, container_bytes}
 use Rattle.safety.specs.declared.verdict.Finding.{Finding}
 use Rattle.safety.specs.Verdict.{plain}
 use Rattle.infer.specs.Inference.{infer_outcome, infer_buffer}
-use Rattle.input.specs.declared.Input.{Input}
-use Rattle.input.specs.declared.Input.TheVariants.{Bytes}
+use Rattle.input.specs.Input.{Input}
 
 -- what stands before the words
 abbrev pub front_length : ℕ
@@ -50,7 +49,7 @@ made s = container_bytes (version_in s) (entry_in s) (words_in s) (notes_for s)
 
 -- the bytes are all that were read
 pub record Read (input : Input) (s : List ℕ) : Type 0 where
-  pub all : input ≡ Bytes (length s)
+  pub all : input ≡ Ok (length s)
   pub few : length s ≤ read_length
 
 -- they are parted into version, entry set and words

@@ -131,8 +131,8 @@ fn main(rt: HostRuntime) {
     let mut buffer = [0u8; MOST];
     let input = read_part(&mut rt.stdin(), &mut buffer);
     match input {
-        Input::Bytes(n) => report(&output, &errors, &buffer[..n], input),
-        Input::Failed => {
+        Ok(n) => report(&output, &errors, &buffer[..n], input),
+        Err(_) => {
             tell(&errors, b"maker: standard input cannot be read\n");
         }
     }

@@ -15,7 +15,7 @@ use Rattle.runbytes.specs.RunBytes.{front_in, registers_in, asked_in}
 use Rattle.runbytes.specs.Served.Whole.{Whole}
 use Rattle.runbytes.proofs.SplitLaws.{whole}
 use Rattle.replaytext.specs.ReplayText.{register_row}
-use Rattle.input.specs.declared.Input.{Input}
+use Rattle.input.specs.Input.{Input}
 use Rattle.replayer.specs.Replaying.{answer_in, steps_of, row_count, row_text, Read, Loaded}
 use Rattle.replayer.proofs.StepLaws.{few_steps, left_alone}
 

@@ -1,6 +1,6 @@
 -- What the replayer reads and what it writes of it (02, Item 8): what a replay is asked, in bytes, and the line of its answer; where each
 -- step is wanted too, before that a line for each step run with the 64 registers after it.
-use Rattle.std.specs.Prelude.{◌≡◌, List, [], ◌∷◌, ◌++◌, ℕ, ◌+◌, ◌*◌, length}
+use Rattle.std.specs.Prelude.{◌≡◌, List, [], ◌∷◌, ◌++◌, ℕ, ◌+◌, ◌*◌, length, Ok}
 use Rattle.bits.specs.Fields.{choose}
 use Rattle.bits.specs.Outcomes.{Outcome, gives, refuses}
 use Rattle.rows.specs.Names.{ascii}
@@ -16,8 +16,7 @@ use Rattle.runbytes.specs.declared.Fault.TheVariants.{Short, Kind, Counts, Cut}
 use Rattle.runbytes.specs.RunBytes.{uniforms_start, most_uniforms, most_recorded, front_in, registers_in, uniforms_in, trace_in, container_in, asked_in, split_outcome}
 use Rattle.text.specs.Text.{line_feed}
 use Rattle.replaytext.specs.ReplayText.{answer_line, register_row}
-use Rattle.input.specs.declared.Input.{Input}
-use Rattle.input.specs.declared.Input.TheVariants.{Bytes}
+use Rattle.input.specs.Input.{Input}
 
 -- the most that is read: the longest that can stand before a container, and one byte more than the longest container
 abbrev pub most_read : ℕ
@@ -51,7 +50,7 @@ fault_line Cut = ascii "replayer: input shorter than counted" ++ (line_feed ∷ 
 
 -- the bytes are all that were read, and what is asked is there
 pub record Read (input : Input) (s : List ℕ) (f : Front) : Type 0 where
-  pub all : input ≡ Bytes (length s)
+  pub all : input ≡ Ok (length s)
   pub parts : gives f ≡ split_outcome s
 
 -- these are its container, uniforms and trace

@@ -3,12 +3,11 @@
 // error.
 #![tactic(auto)]
 
-ghost use Rattle.std.specs.Prelude.{◌≡◌, ◌+◌, ◌<◌, ◌≤◌, length};
+ghost use Rattle.std.specs.Prelude.{◌≡◌, ◌+◌, ◌<◌, ◌≤◌, length, Ok};
 ghost use Rattle.bits.specs.Fields.{choose};
 ghost use Rattle.bits.specs.Outcomes.{refuses};
 ghost use Rattle.replay.specs.Replay.{replayed_outcome, replay_registers};
 ghost use Rattle.runbytes.specs.RunBytes.{trace_in, asked_in, split_outcome};
-ghost use Rattle.input.specs.declared.Input.TheVariants.{Bytes};
 ghost use Rattle.input.specs.Input.{Within};
 ghost use Rattle.replayer.specs.Replaying.{most_read, answer_in, answer_text, steps_of, row_count, row_text, fault_line, Read, Loaded};
 
@@ -225,14 +224,14 @@ fn answer_whole(output: &impl Print, errors: &impl Print, bytes: &[u8], input: I
 }
 
 fn tell_fault<'a>(errors: &impl Print, bytes: &'a [u8], input: Input, e: Fault, line: &'a [u8])
-    requires { (input ≡ Bytes (length bytes.now)) × (refuses e ≡ split_outcome bytes.now) × (line.now ≡ fault_line e) }
+    requires { (input ≡ Ok (length bytes.now)) × (refuses e ≡ split_outcome bytes.now) × (line.now ≡ fault_line e) }
 {
     tell(errors, line);
 }
 
 // Tells what is wrong with the input.
 fn refuse(errors: &impl Print, bytes: &[u8], input: Input, e: Fault)
-    requires { (input ≡ Bytes (length bytes.now)) × (refuses e ≡ split_outcome bytes.now) }
+    requires { (input ≡ Ok (length bytes.now)) × (refuses e ≡ split_outcome bytes.now) }
 {
     match e {
         Fault::Short => tell_fault(
@@ -262,7 +261,7 @@ fn refuse(errors: &impl Print, bytes: &[u8], input: Input, e: Fault)
 
 // Answers what was read.
 fn report(output: &impl Print, errors: &impl Print, bytes: &[u8], input: Input)
-    requires { input ≡ Bytes (length bytes.now) }
+    requires { input ≡ Ok (length bytes.now) }
 {
     let parted = split(bytes);
     match parted {
@@ -277,8 +276,8 @@ fn main(rt: HostRuntime) {
     let mut buffer = [0u8; MOST];
     let input = read_part(&mut rt.stdin(), &mut buffer);
     match input {
-        Input::Bytes(n) => report(&output, &errors, &buffer[..n], input),
-        Input::Failed => {
+        Ok(n) => report(&output, &errors, &buffer[..n], input),
+        Err(_) => {
             tell(&errors, b"replayer: standard input cannot be read\n");
         }
     }

@@ -2,8 +2,7 @@
 // words. A program here has no exit status, so what fails is told on standard error.
 #![tactic(auto)]
 
-ghost use Rattle.std.specs.Prelude.{◌≡◌, length};
-ghost use Rattle.input.specs.declared.Input.TheVariants.{Bytes};
+ghost use Rattle.std.specs.Prelude.{◌≡◌, length, Ok};
 ghost use Rattle.input.specs.Input.{Within};
 ghost use Rattle.listing.specs.Cut.{read_length};
 ghost use Rattle.show.specs.Show.{shown};
@@ -37,7 +36,7 @@ fn send(output: &impl Print, bytes: &[u8], text: &[u8]) -> bool
 
 // Shows the bytes, which are as many as were read.
 fn display(output: &impl Print, bytes: &[u8], input: Input) -> bool
-    requires { input ≡ Bytes (length bytes.now) }
+    requires { input ≡ Ok (length bytes.now) }
 {
     let mut out = [0u8; LONGEST];
     let n = show::write(bytes, &mut out);
@@ -45,7 +44,7 @@ fn display(output: &impl Print, bytes: &[u8], input: Input) -> bool
 }
 
 fn report(output: &impl Print, errors: &impl Print, bytes: &[u8], input: Input)
-    requires { input ≡ Bytes (length bytes.now) }
+    requires { input ≡ Ok (length bytes.now) }
 {
     if !display(output, bytes, input) {
         complain(errors, b"viewer: standard output cannot be written\n");
@@ -58,8 +57,8 @@ fn main(rt: HostRuntime) {
     let mut buffer = [0u8; MOST];
     let input = read_part(&mut rt.stdin(), &mut buffer);
     match input {
-        Input::Bytes(n) => report(&output, &errors, &buffer[..n], input),
-        Input::Failed => {
+        Ok(n) => report(&output, &errors, &buffer[..n], input),
+        Err(_) => {
             complain(&errors, b"viewer: standard input cannot be read\n");
         }
     }

@@ -8,7 +8,7 @@ use Rattle.container.specs.declared.format.Format.{Format}
 use Rattle.container.specs.Formats.{format_of}
 use Rattle.packing.specs.Packing.{word_count}
 use Rattle.infer.specs.Inference.{inference_outcome}
-use Rattle.input.specs.declared.Input.{Input}
+use Rattle.input.specs.Input.{Input}
 use Rattle.maker.specs.Making.{blank, Read, Parted}
 use Rattle.maker.proofs.MakingLaws.{notes_room, whole_room, lent, lent_length, answered, noted, fits, packed}
 use Rattle.maker.proofs.make.Goals as goal
