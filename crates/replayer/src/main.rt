@@ -17,7 +17,7 @@ use replay::{Replayed, replay};
 use replaytext::{LONGEST_ANSWER, ROW_LENGTH, put_answer, put_registers};
 use run::Stop;
 use runbytes::{
-    Fault, Front, MOST_RECORDED, MOST_UNIFORMS, Parted, UNIFORMS_START, container, load_lists,
+    Fault, Front, MOST_RECORDED, MOST_UNIFORMS, UNIFORMS_START, container, load_lists,
     load_registers, split,
 };
 use std::io::Read;
@@ -77,7 +77,7 @@ fn write_row<'a>(
 {
     let mut registers = [0u32; REGISTERS];
     load_registers(bytes, &mut registers);
-    replay(container, &mut registers, uniforms, &trace[..0], j);
+    let _ = replay(container, &mut registers, uniforms, &trace[..0], j);
     let mut line = [0u8; ROW_LENGTH];
     let n = put_registers(&registers, &mut line);
     send_row(output, bytes, input, f, j, &line[..n])
@@ -97,14 +97,12 @@ fn write_rows<'a>(
     requires { Read input bytes.now f × Loaded bytes.now container.now uniforms.now trace.now × (n ≡ row_count bytes.now) }
     ensures { result ≤ n }
 {
-    let mut j = 0;
-    while j < n {
+    for j in 0..n {
         if !write_row(output, bytes, input, f, container, uniforms, trace, j + 1) {
             return j;
         }
-        j += 1;
     }
-    j
+    n
 }
 
 // Sends the line of an answer, after k lines of registers.
@@ -131,12 +129,9 @@ fn steps_of(a: Replayed, limit: u32) -> u32
     ensures { result ≡ steps_of (replayed_outcome a) }
 {
     match a {
-        Replayed::Ran(s) => match s {
-            Stop::Differs(k, _) => k + 1,
-            Stop::Ended(n) => n,
-            Stop::Limit(n) => n,
-        },
-        Replayed::Refused(_) => 0,
+        Ok(Stop::Differs(k, _)) => k + 1,
+        Ok(Stop::Ended(n) | Stop::Limit(n)) => n,
+        Err(_) => 0,
     }
 }
 
@@ -229,44 +224,32 @@ fn tell_fault<'a>(errors: &impl Print, bytes: &'a [u8], input: Input, e: Fault, 
     tell(errors, line);
 }
 
+// What is told of what is wrong.
+fn fault_line(e: Fault) -> &'static [u8]
+    ensures { result.now ≡ fault_line e }
+{
+    match e {
+        Fault::Short => b"replayer: input shorter than 272 bytes\n",
+        Fault::Kind => b"replayer: first number is not 0 or 1\n",
+        Fault::Counts => b"replayer: a count is too large\n",
+        Fault::Cut => b"replayer: input shorter than counted\n",
+    }
+}
+
 // Tells what is wrong with the input.
 fn refuse(errors: &impl Print, bytes: &[u8], input: Input, e: Fault)
     requires { (input ≡ Ok (length bytes.now)) × (refuses e ≡ split_outcome bytes.now) }
 {
-    match e {
-        Fault::Short => tell_fault(
-            errors,
-            bytes,
-            input,
-            e,
-            b"replayer: input shorter than 272 bytes\n",
-        ),
-        Fault::Kind => tell_fault(
-            errors,
-            bytes,
-            input,
-            e,
-            b"replayer: first number is not 0 or 1\n",
-        ),
-        Fault::Counts => tell_fault(errors, bytes, input, e, b"replayer: a count is too large\n"),
-        Fault::Cut => tell_fault(
-            errors,
-            bytes,
-            input,
-            e,
-            b"replayer: input shorter than counted\n",
-        ),
-    }
+    tell_fault(errors, bytes, input, e, fault_line(e));
 }
 
 // Answers what was read.
 fn report(output: &impl Print, errors: &impl Print, bytes: &[u8], input: Input)
     requires { input ≡ Ok (length bytes.now) }
 {
-    let parted = split(bytes);
-    match parted {
-        Parted::Whole(f) => answer_whole(output, errors, bytes, input, f),
-        Parted::Wrong(e) => refuse(errors, bytes, input, e),
+    match split(bytes) {
+        Ok(f) => answer_whole(output, errors, bytes, input, f),
+        Err(e) => refuse(errors, bytes, input, e),
     }
 }
 
