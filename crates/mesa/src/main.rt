@@ -2,7 +2,7 @@
 #![tactic(auto)]
 
 use codec::read_word;
-use saying::Read;
+use saying::ReadingText;
 use std::io;
 
 const MOST: usize = 4096;
@@ -11,7 +11,11 @@ const MOST: usize = 4096;
 fn say_words(output: &impl Print, bytes: &[u8]) -> io::Result<()> {
     let (words, _) = bytes.as_chunks::<8>();
     for word in words {
-        println!(output; "{:016x} {}", u64::from_le_bytes(*word), Read(read_word(word)))?;
+        println!(output;
+            "{:016x} {}",
+            u64::from_le_bytes(*word),
+            ReadingText(read_word(word))
+        )?;
     }
     Ok(())
 }

@@ -15,9 +15,9 @@ pub fits : (k : ℕ) → length (name_of k) ≤ name_width
 unfolding ascii
 fits k =
     ⊎_elim
-      (λ h. omega (arith, simp (length-append, length-replicate) at (name_long k h)))
-      (λ h. rw (no_name k h) (omega arith))
-      (cases_lt k row_count)
+    (λ h. omega (arith, simp (length-append, length-replicate) at (name_long k h)))
+    (λ h. rw (no_name k h) (omega arith))
+    (cases_lt k row_count)
 
 pub unfilled : (n : List ℕ) → take (length n) (filled n) ≡ n
 unfilled n = take_at n (replicate (name_width - length n) 32) (length n) refl

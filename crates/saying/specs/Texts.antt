@@ -23,6 +23,6 @@ finding_text f =
     codes "REFUSED " ++ (decimal f.number ++ (codes " " ++ (decimal f.place ++ (codes " " ++ (decimal f.index ++ (codes " " ++ (decimal f.register ++ half_text f.half)))))))
 
 -- what a word reads as: the name of its row, or the refusal
-abbrev pub read_text : Result Instruction Refusal → List ℕ
-read_text (Ok i) = name_of i.row
-read_text (Err f) = refusal_text f
+abbrev pub reading_text : Result Instruction Refusal → List ℕ
+reading_text (Ok i) = name_of i.row
+reading_text (Err f) = refusal_text f

@@ -5,4 +5,4 @@ mod entries;
 mod texts;
 
 pub use entries::{Entries, Entry};
-pub use texts::{Found, Named, Read, Refused};
+pub use texts::{FindingText, ReadingText, RefusalText, RowName};

@@ -1,7 +1,7 @@
 // The texts of the answers.
 ghost use Rattle.std.specs.Prelude.{Some};
 ghost use Rattle.rows.specs.Names.{name_of};
-ghost use Rattle.saying.specs.Texts.{refusal_text, finding_text, read_text};
+ghost use Rattle.saying.specs.Texts.{refusal_text, finding_text, reading_text};
 
 use record::answer::Refusal;
 use record::instruction::Instruction;
@@ -10,9 +10,9 @@ use std::fmt;
 
 // A refusal of a word or of an instruction: its number and its place.
 #[derive(Clone, Copy, Debug)]
-pub struct Refused(pub Refusal);
+pub struct RefusalText(pub Refusal);
 
-impl fmt::Display for Refused {
+impl fmt::Display for RefusalText {
     ghost output = { λ s. Some (refusal_text s.0) };
 
     fn fmt<W: fmt::Write>(&self, f: &mut fmt::Formatter<W>) -> fmt::Result {
@@ -23,9 +23,9 @@ impl fmt::Display for Refused {
 
 // A refusal of a container: number, place, instruction, register with the half.
 #[derive(Clone, Copy, Debug)]
-pub struct Found(pub Finding);
+pub struct FindingText(pub Finding);
 
-impl fmt::Display for Found {
+impl fmt::Display for FindingText {
     ghost output = { λ s. Some (finding_text s.0) };
 
     fn fmt<W: fmt::Write>(&self, f: &mut fmt::Formatter<W>) -> fmt::Result {
@@ -47,24 +47,24 @@ impl fmt::Display for Found {
 
 // What a word reads as: the name of its row, or the refusal.
 #[derive(Clone, Copy, Debug)]
-pub struct Read(pub Result<Instruction, Refusal>);
+pub struct ReadingText(pub Result<Instruction, Refusal>);
 
-impl fmt::Display for Read {
-    ghost output = { λ s. Some (read_text s.0) };
+impl fmt::Display for ReadingText {
+    ghost output = { λ s. Some (reading_text s.0) };
 
     fn fmt<W: fmt::Write>(&self, f: &mut fmt::Formatter<W>) -> fmt::Result {
         match self.0 {
-            Ok(i) => write!(f, "{}", Named(usize::from(i.row))),
-            Err(refusal) => write!(f, "{}", Refused(refusal)),
+            Ok(i) => write!(f, "{}", RowName(usize::from(i.row))),
+            Err(refusal) => write!(f, "{}", RefusalText(refusal)),
         }
     }
 }
 
 // The name of a row; nothing where there is no such row.
 #[derive(Clone, Copy, Debug)]
-pub struct Named(pub usize);
+pub struct RowName(pub usize);
 
-impl fmt::Display for Named {
+impl fmt::Display for RowName {
     ghost output = { λ s. Some (name_of s.0) };
 
     fn fmt<W: fmt::Write>(&self, f: &mut fmt::Formatter<W>) -> fmt::Result {

@@ -10,7 +10,7 @@ use codec::{read_word, write_word};
 use meaning::Meaning;
 use record::answer::Refusal;
 use record::instruction::Instruction;
-use saying::{Named, Read, Refused};
+use saying::{ReadingText, RefusalText, RowName};
 use std::io;
 
 // What each byte of a buffer is before a record is written to it.
@@ -18,19 +18,19 @@ const BLANK: u8 = 0xA5;
 
 // What bytes read as.
 fn reads(output: &impl Print, label: &str, bytes: &[u8]) -> io::Result<()> {
-    println!(output; "read {label}: {}", Read(read_word(bytes)))
+    println!(output; "read {label}: {}", ReadingText(read_word(bytes)))
 }
 
 fn reads_word(output: &impl Print, word: u64) -> io::Result<()> {
     let read = read_word(&word.to_le_bytes());
-    println!(output; "read {word:016x}: {}", Read(read))
+    println!(output; "read {word:016x}: {}", ReadingText(read))
 }
 
 // What was done, or the refusal.
 fn say_answer(output: &impl Print, done: &str, refusal: Option<Refusal>) -> io::Result<()> {
     match refusal {
         None => print!(output; "{done}"),
-        Some(refusal) => print!(output; "{}", Refused(refusal)),
+        Some(refusal) => print!(output; "{}", RefusalText(refusal)),
     }
 }
 
@@ -66,7 +66,7 @@ fn writes_branch(output: &impl Print, offset: i32) -> io::Result<()> {
     print!(output; "write offset {offset}: ")?;
     match write_word(i, &mut buffer) {
         Ok(()) => println!(output; "{:016x}", u64::from_le_bytes(buffer)),
-        Err(refusal) => println!(output; "{}, buffer {}", Refused(refusal), kept(&buffer)),
+        Err(refusal) => println!(output; "{}, buffer {}", RefusalText(refusal), kept(&buffer)),
     }
 }
 
@@ -164,11 +164,11 @@ fn row_default(output: &impl Print, row: usize) -> io::Result<()>
     requires { row < row_count }
 {
     let word = written(fresh(row));
-    print!(output; "{row} {} {:016x} ", Named(row), u64::from_le_bytes(word))?;
+    print!(output; "{row} {} {:016x} ", RowName(row), u64::from_le_bytes(word))?;
     match read_word(&word) {
         Ok(i) if written(i) == word => println!(output; "again"),
         Ok(_) => println!(output; "other"),
-        Err(refusal) => println!(output; "{}", Refused(refusal)),
+        Err(refusal) => println!(output; "{}", RefusalText(refusal)),
     }
 }
 

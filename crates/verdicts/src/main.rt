@@ -2,7 +2,7 @@
 // parcels of version 2. Each entry of the input is a container with a label of 32 bytes.
 #![tactic(auto)]
 
-use saying::{Entries, Found};
+use saying::{Entries, FindingText};
 use std::io;
 use verifier::verify;
 
@@ -13,7 +13,7 @@ const MOST: usize = 131072;
 fn say_verdict(output: &impl Print, container: &[u8]) -> io::Result<()> {
     match verify(container) {
         Ok(()) => println!(output; " ACCEPTED"),
-        Err(finding) => println!(output; " {}", Found(finding)),
+        Err(finding) => println!(output; " {}", FindingText(finding)),
     }
 }
 

@@ -1,7 +1,7 @@
 use Rattle.std.proofs.Common.{◌≡◌}
 use Rattle.rows.specs.Names.{name_of, name}
 use Rattle.saying.proofs.NameLaws.{fits, unfilled}
-use Rattle.saying.proofs.texts.NamedDisplay.fmt.Goals as goal
+use Rattle.saying.proofs.texts.RowNameDisplay.fmt.Goals as goal
 
 -- src/texts.rt:72:13
 pub shared_ref_as_front-letters : goal.shared_ref_as_front-letters
