@@ -1,17 +1,16 @@
 // Inference of annotations (the paper's maker of notes): from a version, words and an entry set to the annotations that name the most.
 #![tactic(auto)]
 
-ghost use Rattle.std.specs.Prelude.{◌≡◌, true, ◌*◌, ◌<◌, length};
-ghost use Rattle.container.specs.Formats.{known, annotation_length};
+ghost use Rattle.std.specs.Prelude.{◌≡◌, ◌*◌, ◌<◌, length};
+ghost use Rattle.container.specs.Formats.{annotation_length};
 ghost use Rattle.bits.specs.Outcomes.{refuses};
-ghost use Rattle.packing.specs.Packing.{word_count, Fitting, taken};
+ghost use Rattle.packing.specs.Packing.{taken};
 ghost use Rattle.reasons.specs.Numbers.{number_of};
 ghost use Rattle.safety.specs.Program.{Worded, Annotated};
 ghost use Rattle.safety.specs.Verdict.{plain};
 ghost use Rattle.infer.specs.Inference.{inference_outcome};
 ghost use Rattle.infer.specs.Asked.{Inferred};
 ghost use Rattle.infer.specs.Served.Handed.{Ready, Swept, Handed};
-ghost use Rattle.sweeps.specs.Served.Plan.{Sized, Full};
 
 use bits::halves::{Halves, both};
 use container::format::{format_of, known};

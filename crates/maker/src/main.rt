@@ -2,13 +2,11 @@
 // standard output. A program here has no exit status, so standard error tells how many sweeps that took, or the refusal, or what failed.
 #![tactic(auto)]
 
-ghost use Rattle.std.specs.Prelude.{◌≡◌, true, length};
+ghost use Rattle.std.specs.Prelude.{◌≡◌, length};
 ghost use Rattle.bits.specs.Outcomes.{gives, refuses};
-ghost use Rattle.container.specs.Formats.{known, container_length};
-ghost use Rattle.packing.specs.Packing.{word_count, Fitting};
 ghost use Rattle.input.specs.Input.{Within};
 ghost use Rattle.verdictline.specs.VerdictLine.{verdict_line};
-ghost use Rattle.maker.specs.Making.{read_length, blank, answer_to, notes_for, made, Read, Parted};
+ghost use Rattle.maker.specs.Making.{read_length, answer_to, made, Read, Parted};
 
 use bits::bytes::load64;
 use bits::halves::Halves;

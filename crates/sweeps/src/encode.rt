@@ -14,6 +14,7 @@ pub fn encode(version: u64, lows: &[u64], highs: &[u64], out: &mut [u8])
     ensures { out.new ≡ note_bytes version (λ j. halves (get_or lows.now j 0) (get_or highs.now j 0)) (length lows.now) }
 {
     let f = format_of(version);
+    // By offsets, and not chunk by chunk: of a chunk that was lent only its length is known afterwards.
     for i in 0..lows.len() {
         let start = f.annotation * i;
         let middle = start + 8;

@@ -13,7 +13,7 @@ use safety::verdict::{Verdict, refused};
 use verifier::program::reading_at;
 
 // The registers that an instruction kills, the halves that it fills, and where it goes on: the next instruction and the branch target, n
-// where there is none.
+// where there is none, for a sweep compares each place with the length anyhow.
 #[derive(Clone, Copy)]
 pub struct Step {
     pub kills: u64,
@@ -42,7 +42,8 @@ pub(crate) fn step_of(version: u64, x: Instruction, i: usize, n: usize) -> Step
     }
 }
 
-// Reads the words, in order, into the plan; refuses the first that does not read.
+// Reads the words, in order, into the plan; refuses the first that does not read. The plan is five lists, since a caller's memory for them
+// is laid out so that none slows another.
 pub fn make_plan(
     version: u64,
     words: &[u8],
