@@ -33,7 +33,7 @@ use opcoderows::row_with;
 
 
 use record::instruction::Instruction;
-use replay::{Replayed, replay};
+use replay::replay;
 use replaycode::stop_code;
 use safety::verdict::Verdict;
 use sweeps::answer::Inference;
@@ -116,8 +116,8 @@ pub fn vsp_replay<'a>(
 {
     let a = replay(container, registers, uniforms, trace, limit);
     match a {
-        Replayed::Ran(s) => stop_code(s),
-        Replayed::Refused(f) => finding_code(f),
+        Ok(stop) => stop_code(stop),
+        Err(refused) => finding_code(refused),
     }
 }
 
