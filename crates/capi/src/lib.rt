@@ -31,7 +31,7 @@ use infer::infer;
 use opcoderows::row_with;
 use reasons::Reason;
 use record::instruction::Instruction;
-use replay::{Replayed, replay};
+use replay::replay;
 use replaycode::stop_code;
 use text::name::put_name;
 use verifier::verify;
@@ -110,8 +110,8 @@ pub fn vsp_replay<'a>(
 {
     let a = replay(container, registers, uniforms, trace, limit);
     match a {
-        Replayed::Ran(s) => stop_code(s),
-        Replayed::Refused(f) => finding_code(f),
+        Ok(stop) => stop_code(stop),
+        Err(refused) => finding_code(refused),
     }
 }
 

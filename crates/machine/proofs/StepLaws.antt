@@ -39,6 +39,7 @@ same_result row m a b c = go (eqb row 0) refl (eqb row 1) refl
     rest false false false false false true _ = refl
     rest false false false false false false true = refl
     rest false false false false false false false = refl
+
     go : (t : Bool) → eqb row 0 ≡ t → (u : Bool) → eqb row 1 ≡ u → op_result (unwrap_or (op_of row) Nop) m a b c ≡ row_result row m a b c
     go true e u d = rw (eqb-true row 0 e) refl
     go false e true d = rw (eqb-true row 1 d) refl
@@ -60,6 +61,7 @@ same_jumps row m a = go (eqb row 1) refl
     rest false false false false false false true _ = refl
     rest false false false false false false false true = refl
     rest false false false false false false false false = refl
+
     go : (t : Bool) → eqb row 1 ≡ t → op_jumps (unwrap_or (op_of row) Nop) m a ≡ takes_branch row m a
     go true e = rw (eqb-true row 1 e) refl
     go false e = rw e (rest (eqb row 0) (eqb row 30) (eqb row 31) (eqb row 37) (eqb row 38) (eqb row 39) (eqb row 53) (eqb row 55))
