@@ -11,11 +11,9 @@ const MOST: usize = 4096;
 fn say_words(output: &impl Print, bytes: &[u8]) -> io::Result<()> {
     let (words, _) = bytes.as_chunks::<8>();
     for word in words {
-        println!(output;
-            "{:016x} {}",
-            u64::from_le_bytes(*word),
-            ReadingText(read_word(word))
-        )?;
+        let read = read_word(word);
+        let number = u64::from_le_bytes(*word);
+        println!(output; "{number:016x} {}", ReadingText(read))?;
     }
     Ok(())
 }
