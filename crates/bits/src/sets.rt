@@ -8,7 +8,7 @@ pub fn missing(a: u64, b: u64) -> u64
     a & !b
 }
 
-// The lowest member of a set, or 64 where it has none.
+// The lowest member of a set, or 64 where it has none: the count of trailing zeros, as the definition `lowest` has it, and so no `Option`.
 pub fn lowest(s: u64) -> u32
     ensures { (result ≡ lowest s) × (result ≤ 64) }
 {

@@ -39,7 +39,7 @@ fn after(version: u64, x: Instruction, kills: u64, held: Halves) -> Halves
     }
 }
 
-// The index i + 1 + offset, or n where that is outside 0 to n - 1.
+// The index i + 1 + offset, or n where that is outside 0 to n - 1: n and no `Option`, as the definition `landing` has it and callers test.
 pub fn branch_target(i: usize, offset: i32, n: usize) -> usize
     ensures { result ≡ landing n (pos (i + 1) +ℤ offset) }
 {

@@ -50,7 +50,7 @@ fn full(at: usize, room: usize) -> Input
     Ok(at)
 }
 
-// Reads until the buffer is full or the input ends.
+// Reads until the buffer is full or the input ends. Each read says itself how far it went, so the loop has nothing to count by.
 pub fn fill<R: Read>(reader: &mut R, buffer: &mut [u8]) -> Input
     ensures { Within result (length buffer.old) }
 {

@@ -33,7 +33,7 @@ pub struct Group {
     pub cell: u64,
 }
 
-// A cell with no row.
+// A cell with no row. It is no `Option`, since a group without secondary opcodes leads to no cell.
 const EMPTY: u64 = 255;
 
 // A line from a row of the table.

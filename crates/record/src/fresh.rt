@@ -23,7 +23,7 @@ fn default_source(shape: u64, low: u64) -> u8
     (ENTRY_0 * bits_at(shape, low, 1)) as u8
 }
 
-// The default sources of a row, by its shape.
+// The default sources of a row, by its shape: one by one, since each place has a name of its own.
 fn default_sources(shape: u64) -> Sources
     ensures { result ≡ sources_of (default_sources_in shape) }
 {

@@ -120,7 +120,7 @@ fn bytes_of(row: usize) -> [u8; WIDTH]
     all()[start..start + WIDTH].try_into().unwrap()
 }
 
-// The name of a row; of length 0 where there is no such row.
+// The name of a row; of length 0 where there is no such row, as the definition `name_of` has none there.
 pub fn of_row(row: usize) -> Name
     ensures { result ≡ name row }
 {

@@ -30,10 +30,10 @@ pub struct Finding {
 // What the verifier says of a container: accepted, or why it is refused.
 pub type Verdict = Result<(), Finding>;
 
-// The register of a finding where none is at fault.
+// The register of a finding where none is at fault: a number and no `Option`, as C and the line of a verdict show it.
 pub const NO_REGISTER: u32 = 64;
 
-// A refusal that names no register.
+// A refusal that names no register. The number may be any, as in the definition `plain`, so it is no `Reason`.
 pub fn plain(number: u8, place: u8, index: usize) -> Finding
     ensures { result ≡ plain number place index }
 {
