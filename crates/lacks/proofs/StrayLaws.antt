@@ -2,15 +2,13 @@
 use Rattle.std.specs.Prelude.{None, Some, option_map}
 use mathlib.Core.Path.{◌≡◌, refl, ap, ◌∙◌, subst}
 use mathlib.Core.Bool.{Bool, true, false, ◌||◌}
-use mathlib.Core.List.{◌++◌}
-use Prim.Native.Nat.{ℕ, ◌/◌, ◌<◌, ◌≤◌}
+use Prim.Native.Nat.{ℕ, ◌/◌}
 use native.Mathlib.Omega.{arith}
-use borrow.Author.Tests.{lt-ltb, le-ltb, ltb-false}
+use borrow.Author.Tests.{ltb-false}
 use lib.Dec.{T, ltb}
 use Rattle.bits.proofs.OptionLaws.{None-ne-Some}
 use Rattle.bits.specs.Fields.{choose, assigned}
 use Rattle.bits.proofs.Every.{every, at, T_true}
-use Rattle.rows.specs.Names.{ascii}
 use Rattle.rows.specs.Rows.{Row, rows, row_of, no_row, row_count}
 use Rattle.rows.specs.Layout.{places, slots, modifier_at, find}
 use Rattle.rows.specs.Served.Table.{upto}
@@ -23,8 +21,7 @@ use Rattle.lookup.specs.declared.Line.{Line}
 use Rattle.opcoderows.proofs.OpcodeLaws.{found_among}
 use Rattle.judge.proofs.JudgeLaws.{line_fitted}
 use Rattle.reading.proofs.SourceBytes.{shape_row}
-use Rattle.text.specs.Text.{number_text}
-use Rattle.lacks.specs.Lacks.{lack_at, lack_text, lacks, LackTrue}
+use Rattle.lacks.specs.Lacks.{lack_at, lacks, LackTrue}
 
 module _ (w : ℕ) where
   pub row_found : {l : Line} → Some l ≡ option_map line_of (row_for w) → l.shape / 281474976710656 ≡ find rows 0 w
@@ -38,30 +35,6 @@ module _ (w : ℕ) where
       go : (b : Bool) → ltb (find rows 0 w) row_count ≡ b → None ≡ option_map line_of (choose b (Some (find rows 0 w)) None) → row_count ≡ find rows 0 w
       go true p q = absurd (None-ne-Some (line_of (find rows 0 w)) q)
       go false p q = omega (arith, find_le w, ltb-false (find rows 0 w) row_count p)
-
-module _ (p : ℕ) where
-  pub no_source_there : p < 24 → ascii "no source " ++ number_text 10 1 (p / 8) ≡ lack_text (lack_at p)
-  unfolding lack_at
-  no_source_there l = rw (lt-ltb p 24 l)
-
-  module _ (a : 24 ≤ p) where
-    pub neither_there : p < 32 → ascii "neither a source nor a modifier" ≡ lack_text (lack_at p)
-    unfolding lack_at
-    neither_there l = rw (le-ltb p 24 a, lt-ltb p 32 l)
-
-    module _ (b : 32 ≤ p) where
-      pub no_modifier_there : p < 40 → ascii "no modifier" ≡ lack_text (lack_at p)
-      unfolding lack_at
-      no_modifier_there l = rw (le-ltb p 24 a, le-ltb p 32 b, lt-ltb p 40 l)
-
-      module _ (c : 40 ≤ p) where
-        pub no_destination_there : p < 48 → ascii "no destination" ≡ lack_text (lack_at p)
-        unfolding lack_at
-        no_destination_there l = rw (le-ltb p 24 a, le-ltb p 32 b, le-ltb p 40 c, lt-ltb p 48 l)
-
-        pub nothing_there : 48 ≤ p → ascii "nothing" ≡ lack_text (lack_at p)
-        unfolding lack_at
-        nothing_there d = rw (le-ltb p 24 a, le-ltb p 32 b, le-ltb p 40 c, le-ltb p 48 d)
 
 -- that it is so, by one test over the rows
 lack_test : ℕ → Row → Bool

@@ -33,6 +33,7 @@ fn put_row(w: u64, out: &mut [u8]) -> usize
     }
 }
 
+#[tactic(auto, unfolding(crate::specs::Lacks::lack_at, rows::specs::Names::ascii))]
 fn put_lack(place: u8, out: &mut [u8]) -> usize
     requires { 31 ≤ length out.old }
     ensures { Put (lack_text (lack_at place)) out.old out.new result × (result ≤ 31) }

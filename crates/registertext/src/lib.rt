@@ -18,6 +18,7 @@ const REGISTERS: u64 = 64;
 pub const LONGEST: usize = 5 * REGISTERS as usize;
 
 // Which halves of register r are in a set.
+#[tactic(auto, unfolding(crate::specs::Registers::mask_at))]
 fn mask_at(s: Halves, r: u64) -> u64
     requires { r < 64 }
     ensures { result ≡ mask_at s r }
@@ -41,7 +42,7 @@ fn same_after(s: Halves, r: u64) -> bool
     r < REGISTERS - 1 && mask_at(s, r + 1) == mask_at(s, r)
 }
 
-// The letter where there is only one half.
+// The letter where there is only one half. A mask can also say both, as the half of a verdict can not.
 #[tactic(auto, unfolding(crate::specs::Registers::mask_letter, rows::specs::Names::ascii))]
 fn put_letter(mask: u64, out: &mut [u8]) -> usize
     requires { 1 ≤ length out.old }
@@ -64,6 +65,7 @@ fn put_register(label: &[u8], r: u64, mask: u64, out: &mut [u8]) -> usize
 }
 
 // What register r adds to the text of a set whose lowest register is `low`.
+#[tactic(auto, unfolding(crate::specs::Registers::member_text, rows::specs::Names::ascii))]
 fn put_member(s: Halves, low: u32, r: u64, out: &mut [u8]) -> usize
     requires { (low ≡ lowest_of (either_of s)) × (r < 64) × (5 ≤ length out.old) }
     ensures { Put (member_text s r) out.old out.new result × (result ≤ 5) }

@@ -1,14 +1,10 @@
 -- A source, with the places of its modifiers as the code has them. Assumes nothing.
-use mathlib.Core.Path.{◌≡◌, refl, sym, ap, ◌∙◌}
+use mathlib.Core.Path.{◌≡◌, refl, ap}
 use mathlib.Core.List.{List, [], ◌∷◌, ◌++◌}
 use Prim.Native.Nat.{ℕ, zero, suc, ◌-◌, ◌≤◌}
 use native.Mathlib.Omega.{arith}
 use lib.ListN.{length}
-use Rattle.sources.specs.declared.Source.{Source}
-use Rattle.sources.specs.SourceMeaning.{source_meaning}
 use Rattle.rows.specs.Sources.{meaning}
-use Rattle.text.specs.Text.{Put}
-use Rattle.text.proofs.TextLaws.{same_text}
 use Rattle.fieldtext.specs.Served.Coded.{coded_texts}
 use Rattle.sourcetext.specs.SourceText.{meaning_text}
 use Rattle.sourcetext.specs.Served.SourcePlaces.{sign_places, swizzle_places, coded_source}
@@ -33,8 +29,3 @@ three_swizzles zero = refl
 three_swizzles (suc zero) = refl
 three_swizzles (suc (suc zero)) = refl
 three_swizzles (suc (suc (suc k))) = refl
-
--- a source byte, by what the code found it to mean
-pub meant : (page b : ℕ) {r s : Source} {before after : List ℕ} {n : ℕ} → r ≡ s → source_meaning page r ≡ meaning page b
-    → Put (meaning_text (source_meaning page s)) before after n → Put (meaning_text (meaning page b)) before after n
-meant page b e f p = same_text (ap meaning_text (sym (ap (source_meaning page) e) ∙ f)) p

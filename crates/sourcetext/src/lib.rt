@@ -25,6 +25,7 @@ fn put_part(page: u8, i: u8, part: &[u8], out: &mut [u8]) -> usize
 }
 
 // What a source byte means.
+#[tactic(auto, unfolding(rows::specs::Names::ascii))]
 fn put_meaning(page: u8, byte: u8, out: &mut [u8]) -> usize
     requires { special_width + 3 ≤ length out.old }
     ensures { Put (meaning_text (meaning_of page byte)) out.old out.new result × (result ≤ special_width + 3) }

@@ -87,6 +87,7 @@ fn put_below(f: Finding, out: &mut [u8]) -> usize
 }
 
 // Nothing where the verdict is not a refusal.
+#[tactic(auto, unfolding(crate::specs::Words::fault_line))]
 pub fn put_fault(v: Verdict, out: &mut [u8]) -> usize
     requires { longest_fault ≤ length out.old }
     ensures { Put (fault_line (verdict_outcome v)) out.old out.new result × (result ≤ longest_fault) }
@@ -142,6 +143,7 @@ fn put_refused(f: Finding, out: &mut [u8]) -> usize
 }
 
 // The verdict.
+#[tactic(auto, unfolding(crate::specs::Words::verdict_text, rows::specs::Names::ascii))]
 pub fn put_verdict(v: Verdict, out: &mut [u8]) -> usize
     requires { longest_verdict ≤ length out.old }
     ensures { Put (verdict_text (verdict_outcome v)) out.old out.new result × (result ≤ longest_verdict) }

@@ -47,6 +47,7 @@ pub fn lands(n: usize, i: usize, x: Instruction) -> usize
     branch_target(i, x.offset, n)
 }
 
+#[tactic(auto, unfolding(crate::specs::Columns::arrow_text, rows::specs::Names::ascii))]
 fn put_arrow(n: usize, i: usize, x: Instruction, out: &mut [u8]) -> usize
     requires { 11 ≤ length out.old }
     ensures { Put (arrow_text n i x) out.old out.new result × (result ≤ 11) }
@@ -127,6 +128,7 @@ fn put_read(n: usize, i: usize, w: u64, x: Instruction, out: &mut [u8]) -> usize
 }
 
 // The word w at index i of n.
+#[tactic(auto, unfolding(crate::specs::Columns::column_of))]
 pub fn put_column(n: usize, i: usize, w: u64, out: &mut [u8]) -> usize
     requires { longest_column ≤ length out.old }
     ensures { Put (column_of n i w) out.old out.new result × (result ≤ longest_column) }
