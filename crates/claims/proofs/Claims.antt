@@ -434,7 +434,7 @@ as_asked = inferred.inferred
 pub low_alone : LowAlone (record { answer = infer_outcome; after = infer_buffer })
 low_alone = inferred.low_alone
 
--- there are no more than n + 1 sweeps; `Inference::MOST_SWEEPS` is that for 2048 instructions
+-- there are no more than n + 1 sweeps; `Plan::MOST_SWEEPS` is that for 2048 instructions
 pub sweeps_end : (p : Program) → p.entry.low < 2 ^ 64 → p.entry.high < 2 ^ 64 → 0 < p.count → sweeps p ≤ suc p.count
 unfolding machine
 sweeps_end p low high some = (sweep_laws.proposed p (record { low = low; high = high }) some).ends
