@@ -1,6 +1,4 @@
-use mathlib.Core.Path.{sym, ap, ◌∙◌, subst}
-use Prim.Native.Nat.{ℕ, ◌<◌, ◌≤◌}
-use Rattle.rows.specs.Rows.{row_count}
+use mathlib.Core.Path.{sym, ap, ◌∙◌}
 use Rattle.writer.specs.Answers.{writing}
 use Rattle.writing.specs.Writer.{write, stored}
 use Rattle.record.specs.declared.instruction.Instruction.{Instruction}
