@@ -18,7 +18,6 @@ ghost use Rattle.codes.specs.Codes.{outcome_code, verdict_code, infer_code, row_
 ghost use Rattle.form.specs.Form.{form_after, write_form, word_after};
 ghost use Rattle.codes.specs.Texts.{text_after, form_text, name_after};
 
-use bits::bytes::wide;
 use bits::halves::Halves;
 use codec::{read_word, write_word};
 use codes::{finding_code, refusal_code, unread_code};
@@ -59,8 +58,7 @@ pub fn vsp_infer(version: u64, words: &[u8], low: u64, high: u64, annotations: &
     ensures kept { annotations.new ≡ infer_buffer version words.now (halves low high) annotations.old }
     ensures asked { AsAsked version words.now (halves low high) annotations.old (infer_outcome version words.now (halves low high) annotations.old) annotations.new }
 {
-    let a = infer(version, words, Halves { low, high }, annotations);
-    match a {
+    match infer(version, words, Halves { low, high }, annotations) {
         Ok(k) => 65536 * k as u64,
         Err(found) => finding_code(found),
     }
@@ -72,8 +70,7 @@ pub fn vsp_diff_line<'a>(first: &'a [u8], second: &'a [u8], k: usize, line: &mut
     ensures answer { result ≡ line_code (line_outcome first.now second.now k) }
     ensures kept { line.new ≡ line_after (line_outcome first.now second.now k) line.old }
 {
-    let c = diff_line(first, second, k);
-    match c {
+    match diff_line(first, second, k) {
         Ok(Some(l)) => {
             *line = line_numbers(l);
             0
@@ -89,8 +86,7 @@ pub fn vsp_diff_lines<'a>(first: &'a [u8], second: &'a [u8], lines: &mut [u64; M
     ensures answer { result ≡ list_code (list_outcome first.now second.now) }
     ensures kept { lines.new ≡ list_buffer first.now second.now lines.old }
 {
-    let l = diff_lines(first, second, lines);
-    match l {
+    match diff_lines(first, second, lines) {
         Ok(n) => 65536 * n as u64,
         Err(u) => unread_code(u),
     }
@@ -108,10 +104,9 @@ pub fn vsp_replay<'a>(
     ensures answer { result ≡ replay_code (replay_outcome (asked container.now registers.old uniforms.now trace.now limit)) }
     ensures left { registers.new ≡ replay_registers (asked container.now registers.old uniforms.now trace.now limit) }
 {
-    let a = replay(container, registers, uniforms, trace, limit);
-    match a {
-        Ok(stop) => stop_code(stop),
-        Err(refused) => finding_code(refused),
+    match replay(container, registers, uniforms, trace, limit) {
+        Ok(s) => stop_code(s),
+        Err(f) => finding_code(f),
     }
 }
 
@@ -138,16 +133,16 @@ pub fn vsp_write(form: &[u8; 32], word: &mut [u8]) -> u32
         return Reason::RoomLength as u32;
     }
     let f = *form;
-    if Instruction::ROWS as u64 <= wide(f[0]) {
+    if Instruction::ROWS <= f[0] as usize {
         return Reason::NoRow as u32;
     }
     if padded(f) {
         return Reason::NoRoom as u32;
     }
-    if let Err(unwritten) = write_word(instruction_of_form(f), word) {
-        return refusal_code(unwritten);
+    match write_word(instruction_of_form(f), word) {
+        Ok(_) => 0,
+        Err(unwritten) => refusal_code(unwritten),
     }
-    0
 }
 
 // Makes a row's default in a form: 0, or the refusal as one number, and then the form keeps its bytes.

@@ -12,10 +12,10 @@ use safety::verdict::{Finding, Reported};
 pub fn refusal_code(f: Refusal) -> u32
     ensures { result ≡ code f }
 {
-    f.number as u32 + 256 * f.place as u32
+    u32::from(f.number) + (u32::from(f.place) << 8)
 }
 
-// A half as a number.
+// A half as C's number.
 fn half_number(half: Reported) -> u64
     ensures { (result ≡ half_number half) × (result ≤ 2) }
 {
@@ -31,10 +31,8 @@ pub fn finding_code(f: Finding) -> u64
     requires { (f.index < 65536) × (f.register < 256) }
     ensures { (result ≡ packed f) × (result < 281474976710656) }
 {
-    let half = f.half;
-    let low = f.number as u64 + 256 * f.place as u64;
-    let high = 4294967296 * f.register as u64 + 1099511627776 * half_number(half);
-    low + 65536 * f.index as u64 + high
+    let low = f.number as u64 + ((f.place as u64) << 8) + ((f.index as u64) << 16);
+    low + ((f.register as u64) << 32) + (half_number(f.half) << 40)
 }
 
 // A container that cannot be compared as one number: the finding, and 2^48 for the first or 2^49 for the second.
@@ -42,10 +40,8 @@ pub fn unread_code(u: Unread) -> u64
     requires { (u.finding.index < 65536) × (u.finding.register < 256) }
     ensures { result ≡ unread_code u }
 {
-    let f = u.finding;
-    let side = u.side;
-    match side {
-        Side::First => finding_code(f) + 281474976710656,
-        Side::Second => finding_code(f) + 562949953421312,
+    match u.side {
+        Side::First => finding_code(u.finding) + (1 << 48),
+        Side::Second => finding_code(u.finding) + (2 << 48),
     }
 }

@@ -1,15 +1,17 @@
 -- The form of an instruction, written out; and back. Assumes nothing.
 use mathlib.Core.Path.{◌≡◌, refl, sym, ap, ◌∙◌}
-use mathlib.Core.List.{List, [], ◌∷◌, ◌++◌, append-nil}
+use mathlib.Core.Bool.{Bool, true, false, ◌&&◌}
+use mathlib.Core.List.{List, [], ◌∷◌, ◌++◌}
 use Prim.Native.Nat.{ℕ, zero, suc, ◌+◌, ◌*◌, ◌/◌, ◌%◌, ◌<◌, ◌≤◌}
 use native.Mathlib.Nat.{div-div-eq-div-mul, mod-eq_of_lt}
 use native.Mathlib.Omega.{arith}
+use lib.Dec.{eqb}
 use lib.IntN.{ℤ, pos, negsuc}
 use lib.ListN.{length, get_or, take, drop}
-use lib.Seq.{take-length, drop-length, drop-cons}
+use lib.Seq.{drop-cons}
 use mir.Syntax.{w32}
 use mir.Val.{SFits}
-use borrow.Author.Tests.{lt-ltb}
+use borrow.Author.Tests.{lt-ltb, ne_eqb}
 use Rattle.bits.specs.Bytes.{little_bytes}
 use Rattle.bits.specs.Signed.{unsigned, signed}
 use Rattle.bits.proofs.SignedLaws.{back_again}
@@ -34,9 +36,20 @@ pub picked : (n k : ℕ) (f : List ℕ) → k + n ≤ length f → take n (drop 
 picked zero k f l = refl
 picked (suc n) k f l = rw (drop-cons f k 0 (omega (arith, l))) (ap (λ (x : List ℕ). get_or f k 0 ∷ x) (picked n (suc k) f (omega (arith, l))))
 
--- all bytes of one list are copied over as many of another
-pub over : (x y : List ℕ) → length y ≡ length x → take (length x) x ++ drop (length x) y ≡ x
-over x y e = rw (take-length x, sym e, drop-length y) (append-nil x)
+-- padding
+
+both_zero : (a b : ℕ) → (eqb a 0 && eqb b 0) ≡ eqb (a + b) 0
+both_zero zero b = ap (λ (n : ℕ). eqb n 0) (omega arith)
+both_zero (suc a) b = rw (ne_eqb (suc a) 0 (λ q. omega (arith, q)), ne_eqb (suc a + b) 0 (λ q. omega (arith, q))) refl
+
+and_true : (t : Bool) → (t && true) ≡ t
+and_true true = refl
+and_true false = refl
+
+pub all_zero : (a b c d e : ℕ) → (eqb a 0 && (eqb b 0 && (eqb c 0 && (eqb d 0 && (eqb e 0 && true))))) ≡ eqb (a + b + c + d + e) 0
+all_zero a b c d e =
+    let sum : a + (b + (c + (d + e))) ≡ a + b + c + d + e = omega arith in
+    rw (and_true (eqb e 0), both_zero d e, both_zero c (d + e), both_zero b (c + (d + e)), both_zero a (b + (c + (d + e)))) (ap (λ (n : ℕ). eqb n 0) sum)
 
 -- there and back
 

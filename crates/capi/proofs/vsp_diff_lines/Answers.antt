@@ -7,10 +7,10 @@ use Rattle.capi.proofs.vsp_diff_lines.Goals as goal
 
 pub overflow_mul-result : goal.overflow_mul-result
 overflow_mul-result c =
-    let e = list_few c.args.first.now c.args.second.now (sym c.diff_lines-l.ensures.answer ∙ ap listed_outcome c.in-Ok.is) in
+    let e = list_few c.args.first.now c.args.second.now (sym c.diff_lines.ensures.answer ∙ ap listed_outcome c.in-Ok.is) in
     record { fits = omega (arith, e) }
 
 pub unread_code-requires : goal.unread_code-requires
 unread_code-requires c =
-    let e = list_early c.args.first.now c.args.second.now (sym c.diff_lines-l.ensures.answer ∙ ap listed_outcome c.in-Err.is) in
+    let e = list_early c.args.first.now c.args.second.now (sym c.diff_lines.ensures.answer ∙ ap listed_outcome c.in-Err.is) in
     (omega (arith, e.index), omega (arith, e.register))

@@ -7,8 +7,8 @@ use Rattle.capi.proofs.vsp_infer.Goals as goal
 
 pub overflow_mul-result : goal.overflow_mul-result
 overflow_mul-result c =
-    let k : c.in-Ok.k < 65536 = sweeps_small c.infer-a.ensures c.ranges.low.fits c.ranges.high.fits (ap inference_outcome c.in-Ok.is) in
+    let k : c.in-Ok.k < 65536 = sweeps_small c.infer.ensures c.ranges.low.fits c.ranges.high.fits (ap inference_outcome c.in-Ok.is) in
     record { fits = omega (arith, k) }
 
 pub finding_code-requires : goal.finding_code-requires
-finding_code-requires c = let q = maker_roomy c.infer-a.ensures (ap inference_outcome c.in-Err.is) in (q.index, q.register)
+finding_code-requires c = let q = maker_roomy c.infer.ensures (ap inference_outcome c.in-Err.is) in (q.index, q.register)

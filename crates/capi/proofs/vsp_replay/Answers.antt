@@ -6,5 +6,5 @@ use Rattle.capi.proofs.vsp_replay.Goals as goal
 pub finding_code-requires : goal.finding_code-requires
 finding_code-requires c =
     let a = c.args in
-    let q = replay_roomy (asked a.container.now a.registers.now a.uniforms.now a.trace.now a.limit) (λ k. (c.type_inv.container k).fits) (sym c.replay-a.ensures.answer ∙ ap replayed_outcome c.in-Err.is) in
+    let q = replay_roomy (asked a.container.now a.registers.now a.uniforms.now a.trace.now a.limit) (λ k. (c.type_inv.container k).fits) (sym c.replay.ensures.answer ∙ ap replayed_outcome c.in-Err.is) in
     (q.index, q.register)
