@@ -4,4 +4,4 @@ use Rattle.runbytes.proofs.SplitLaws.{whole}
 use Rattle.replays.proofs.say_asked.Goals as goal
 
 pub say_whole-requires : goal.say_whole-requires
-say_whole-requires g c = whole c.args.bytes.now (ap parted_outcome (sym c.in-Ok.is) ∙ c.split.ensures)
+say_whole-requires g c = whole c.args.bytes.now (ap parted_outcome (sym c.in-Ok.is) ∙ c.split-parted.ensures)
