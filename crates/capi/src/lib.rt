@@ -1,4 +1,5 @@
-// The functions for C and Rust, which capi_c exports: numbers, byte slices and fixed arrays only.
+// The functions for C and Rust, which capi_c exports: numbers, byte slices and fixed arrays only. So 255, and 0 for a name, stand where C can
+// have no `Option`.
 #![tactic(auto)]
 
 ghost use Rattle.std.specs.Prelude.{◌≡◌, length};

@@ -1,4 +1,5 @@
-// The functions of capi under their C names, each with the same promises; include/vsp.h declares them.
+// The functions of capi under their C names, each with the same promises; include/vsp.h declares them. They stand beside those of capi, whose
+// contracts `claims` cites: an export is for C alone.
 #![tactic(auto)]
 
 ghost use Rattle.std.specs.Prelude.{◌≡◌, length};

@@ -34,7 +34,7 @@ const CONTAINER: usize = LONGEST_CONTAINER + 1;
 
 const MOST: usize = LENGTH_LENGTH + 2 * CONTAINER;
 
-// Reads two such parts and the length, or all where there is less.
+// Reads two such parts and the length, or all where there is less. What is proved of a program is said of its own functions, so it has this one.
 fn read_part(reader: &mut impl Read, buffer: &mut [u8]) -> Input
     requires { length buffer.old ≡ most_read }
     ensures { Within result most_read }

@@ -1,5 +1,5 @@
 // The whole list of differences in a buffer, three numbers for each line. Each function here puts some lines after k others, and tells how
-// many there are then.
+// many there are then. The loops are its own: put line by line by the cursor of `diff`, the list took three times as long.
 ghost use Rattle.std.specs.Prelude.{◌≡◌, ◌+◌, ◌*◌, ◌<◌, ◌≤◌, [], ◌∷◌, length};
 ghost use Rattle.container.specs.Formats.{most_instructions};
 ghost use Rattle.differences.specs.Records.{field_count};

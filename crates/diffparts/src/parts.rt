@@ -10,10 +10,7 @@ use bits::bytes::load64;
 use bits::halves::Halves;
 use container::format::{Format, format_of};
 use container::header::{halves_in, version_in};
-use container::layout::WORD_LENGTH;
-
-// Where the entry set begins.
-const ENTRY: usize = 8;
+use container::layout::{ENTRY, WORD_LENGTH};
 
 // The version.
 pub(crate) fn version(bytes: &[u8]) -> u64

@@ -15,7 +15,7 @@ use std::io::Read;
 // One byte more than the longest container: what is longer is refused by this part alone.
 const MOST: usize = LONGEST_CONTAINER + 1;
 
-// Reads that part, or all where there is less.
+// Reads that part, or all where there is less. What is proved of a program is said of its own functions, so each has this one.
 fn read_part(reader: &mut impl Read, buffer: &mut [u8]) -> Input
     requires { length buffer.old ≡ read_length }
     ensures { Within result read_length }

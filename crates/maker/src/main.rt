@@ -29,7 +29,7 @@ const ENTRY: usize = 8;
 // One byte more than that and the most words: what is longer is refused by this part alone.
 const MOST: usize = FRONT_LENGTH + WORD_LENGTH * MOST_INSTRUCTIONS + 1;
 
-// Reads that part, or all where there is less.
+// Reads that part, or all where there is less. What is proved of a program is said of its own functions, so each has this one.
 fn read_part(reader: &mut impl Read, buffer: &mut [u8]) -> Input
     requires { length buffer.old ≡ read_length }
     ensures { Within result read_length }

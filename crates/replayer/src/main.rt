@@ -29,7 +29,7 @@ const MOST: usize = UNIFORMS_START
     + 4 * MOST_RECORDED
     + (LONGEST_CONTAINER + 1);
 
-// Reads that part, or all where there is less.
+// Reads that part, or all where there is less. What is proved of a program is said of its own functions, so each has this one.
 fn read_part(reader: &mut impl Read, buffer: &mut [u8; MOST]) -> Input
     ensures { Within result most_read × (length buffer.new ≡ most_read) }
 {
