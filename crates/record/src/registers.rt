@@ -104,11 +104,17 @@ impl Instruction {
         }
     }
 
-    // Those that it releases, alone.
+    // Those that it releases, alone, for the maker, which does not ask what is read. `uses` is left to the check.
     pub fn kills(self) -> u64
         ensures { result ≡ kills self }
     {
-        self.uses().kills
+        let n = source_count(self.row);
+        let s = self.sources;
+        let k0 = kill_set(read_set(n, 0, s.s0), s.s0);
+        let k1 = kill_set(read_set(n, 1, s.s1), s.s1);
+        let k2 = kill_set(read_set(n, 2, s.s2), s.s2);
+        let k3 = kill_set(read_set(n, 3, s.s3), s.s3);
+        k0 | k1 | k2 | k3
     }
 
     // The register that it fully writes, if there is one.
