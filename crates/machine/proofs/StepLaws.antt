@@ -66,10 +66,24 @@ same_jumps row m a = go (eqb row 1) refl
     go true e = rw (eqb-true row 1 e) refl
     go false e = rw e (rest (eqb row 0) (eqb row 30) (eqb row 31) (eqb row 37) (eqb row 38) (eqb row 39) (eqb row 53) (eqb row 55))
 
--- what an operation does, found from its operands
-pub found : (o : Operation) (i : ℕ) (registers : List ℕ) {a b c : ℕ} {e : Effect} → a ≡ operand_worth registers o.a → b ≡ operand_worth registers o.b → c ≡ operand_worth registers o.c
+-- what jumps writes nothing
+pub jumps_write_none : (op : Op) (m : Modifiers) (a b c : ℕ) → op_jumps op m a ≡ true → op_result op m a b c ≡ 0
+unfolding op_result op_jumps
+jumps_write_none Nop m a b c h = refl
+jumps_write_none Branchz m a b c h = refl
+jumps_write_none Mov m a b c h = cc
+jumps_write_none Clz m a b c h = cc
+jumps_write_none Popcount m a b c h = cc
+jumps_write_none Bitrev m a b c h = cc
+jumps_write_none Not m a b c h = cc
+jumps_write_none Fadd m a b c h = cc
+jumps_write_none Mux m a b c h = cc
+
+-- what an operation does, found from its operands, of which the second and the third need only give what it writes
+pub found : (o : Operation) (i : ℕ) (registers : List ℕ) {a : ℕ} (b c : ℕ) {e : Effect} → a ≡ operand_worth registers o.a
+    → ((a : ℕ) → op_result o.op o.modifiers a b c ≡ op_result o.op o.modifiers a (operand_worth registers o.b) (operand_worth registers o.c))
     → e ≡ effect o i a b c → e ≡ effect_on o i registers
-found o i registers p q r s = cc
+found o i registers {a} b c p q s = let r = q a in cc
 
 pub writes_one : (o : Operation) (i : ℕ) (registers : List ℕ) {d : ℕ} {e : Effect} → o.register ≡ Some d → d < 64 → e ≡ effect_on o i registers → set registers d e.number ≡ stored o i registers
 unfolding put

@@ -1,7 +1,8 @@
 // One step of a replay: the registers are lent, and changed in place.
 #![tactic(auto)]
 
-ghost use Rattle.std.specs.Prelude.{◌≡◌, ◌<◌};
+ghost use Rattle.std.specs.Prelude.{◌≡◌, ◌<◌, ℕ};
+ghost use Rattle.operations.specs.Served.Operations.{operand_worth};
 ghost use Rattle.machine.specs.Served.InPlace.{op_result, op_jumps, effect, effect_on, stored};
 
 use operations::Operation;
@@ -44,21 +45,35 @@ fn takes_branch(op: Op, m: Modifiers, a: u32) -> bool
     }
 }
 
+// What the second and the third source of an operation are worth, where it asks for them, else 0: to look up a source that is not asked for
+// takes as long as to look up another.
+#[tactic(auto, unfolding(crate::specs::Served::InPlace::op_result))]
+fn others_worth(registers: &[u32; 64], o: Operation) -> (u32, u32)
+    ensures { (a : ℕ) → op_result o.op o.modifiers a result.0 result.1 ≡ op_result o.op o.modifiers a (operand_worth registers.now o.b) (operand_worth registers.now o.c) }
+{
+    match o.op {
+        Op::Nop | Op::Branchz | Op::Mov | Op::Clz | Op::Popcount | Op::Bitrev | Op::Not => (0, 0),
+        Op::Fadd => (operand_worth(registers, o.b), 0),
+        Op::Mux => (operand_worth(registers, o.b), operand_worth(registers, o.c)),
+    }
+}
+
 // The step by value, from what the operands are worth.
+#[tactic(auto, using(crate::proofs::StepLaws::jumps_write_none))]
 fn stepped(o: Operation, i: usize, a: u32, b: u32, c: u32) -> Effect
     requires { i < 65536 }
     ensures { result ≡ effect o i a b c }
 {
     let m = o.modifiers;
-    let number = result(o.op, m, a, b, c);
     if takes_branch(o.op, m, a) {
+        // what jumps writes nothing
         return Effect {
-            number,
+            number: 0,
             next: o.jump,
         };
     }
     Effect {
-        number,
+        number: result(o.op, m, a, b, c),
         next: i + 1,
     }
 }
@@ -70,8 +85,7 @@ pub fn step(registers: &mut [u32; 64], o: Operation, i: usize) -> usize
     ensures written { registers.new ≡ stored o i registers.old }
 {
     let a = operand_worth(registers, o.a);
-    let b = operand_worth(registers, o.b);
-    let c = operand_worth(registers, o.c);
+    let (b, c) = others_worth(registers, o);
     let e = stepped(o, i, a, b, c);
     if let Some(d) = o.register {
         if d < 64 {

@@ -8,8 +8,8 @@ use sources::{Source, meaning};
 // Where an operand's number is had.
 #[derive(Clone, Copy, Debug, PartialEq, Eq)]
 pub enum Operand {
-    // What a register holds.
-    Register(u8),
+    // What a register holds. Its index is as wide as the number of the other case, so that one load has either.
+    Register(u32),
     // The number that it is for the whole run.
     Fixed(u32),
 }
@@ -20,7 +20,7 @@ pub(crate) fn operand_of(uniforms: &[u32], page: u8, b: u8) -> Operand
 {
     let m = meaning(page, b);
     match m {
-        Source::Read(r) | Source::Released(r) => Operand::Register(r),
+        Source::Read(r) | Source::Released(r) => Operand::Register(u32::from(r)),
         Source::Uniform(u) => Operand::Fixed(uniforms.get(usize::from(u)).copied().unwrap_or(0)),
         Source::Immediate(v) => Operand::Fixed(v),
         Source::SpecialLow(_) | Source::SpecialHigh(_) | Source::Refused => Operand::Fixed(0),
@@ -33,7 +33,8 @@ pub fn operand_worth(registers: &[u32; 64], o: Operand) -> u32
     ensures { result ≡ operand_worth registers.now o }
 {
     match o {
-        Operand::Register(r) => registers.get(usize::from(r)).copied().unwrap_or(0),
+        // by reference: which place is read is then chosen without a branch
+        Operand::Register(r) => *registers.get(r as usize).unwrap_or(&0),
         Operand::Fixed(number) => number,
     }
 }

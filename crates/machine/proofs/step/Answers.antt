@@ -4,7 +4,7 @@ use Rattle.machine.proofs.step.Goals as goal
 pub returns-then-d-lt64-clause-written : goal.returns-then-d-lt64-clause-written
 returns-then-d-lt64-clause-written c =
     let a = c.args in
-    writes_one a.o a.i a.registers.now c.in-Some.is c.if-d-lt64.true (found a.o a.i a.registers.now c.operand_worth-a.ensures c.operand_worth-b.ensures c.operand_worth-c.ensures c.stepped-e.ensures)
+    writes_one a.o a.i a.registers.now c.in-Some.is c.if-d-lt64.true (found a.o a.i a.registers.now _ _ c.operand_worth-a.ensures c.others_worth-b.ensures c.stepped-e.ensures)
 
 pub returns-else-d-lt64-clause-written : goal.returns-else-d-lt64-clause-written
 returns-else-d-lt64-clause-written c = let a = c.args in writes_past a.o a.i a.registers.now c.in-Some.is c.if-d-lt64.false
